@@ -1,0 +1,5 @@
+-- Grammars as data, in reading order.
+pub mod Forest
+pub mod Rule
+pub mod Parse
+pub mod Record
