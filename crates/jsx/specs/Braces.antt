@@ -18,7 +18,7 @@ container n = nodeOf Kind.container (pass ⨾ expression n ⨾ blanks ⨾ closeC
 
 -- `{}` with or without blanks. D: "A 12 spans all between the braces."
 unfoldable pub emptyBraces : Rule
-emptyBraces = nodeOf Kind.container (step ⨾ nodeOf Kind.emptyExpression blanks ⨾ step)
+emptyBraces = nodeOf Kind.container (step ⨾ nodeOf Kind.emptyExpression blanks ⨾ expect "}")
 
 -- D: "one or two dots where `...` may stand: refusal 3 at the first byte, at the end of input too".
 unfoldable pub dots : Rule
@@ -40,7 +40,7 @@ childBracesIn n =
 
 -- D: "attribute `={}` with nothing or blanks inside" is 11 at "the braces".
 unfoldable pub emptyValueBraces : Rule
-emptyValueBraces = marked (pass ⨾ step ⨾ refuse emptyValue fromMark)
+emptyValueBraces = marked (pass ⨾ expect "}" ⨾ refuse emptyValue fromMark)
 
 unfoldable pub valueBracesIn : Inner → Rule
 valueBracesIn n =

@@ -1,4 +1,5 @@
 -- Expressions. Chapter 'Inside braces'. The levels are document 01's, each over what may be entered one level deeper.
+use Prim.Native.Nat.{ℕ}
 use Rattle.rules.specs.Rule.{Test, Rule, done, stop, step, refuse, when, starts, after, seq, many, here, thisByte, nodeOf, _⨾_, _⇒_∣_}
 use Rattle.jsx.specs.Refusal.{unexpected, adjacent}
 use Rattle.jsx.specs.Kind as Kind
@@ -6,7 +7,6 @@ use Rattle.jsx.specs.Byte.{bytesOf, is, digit, quote, need, expect, _or_
 use Rattle.jsx.specs.Blank.{blanks, pass}
 use Rattle.jsx.specs.Name.{opensName}
 use Rattle.jsx.specs.Word.{word, primaryWord, number, string}
-use Prim.Native.Nat.{ℕ}
 
 -- What counts a level of depth. D: "an element, fragment, brace pair, parenthesis, bracket, call, prefix operator (to the end of its
 -- operand) and conditional (from its `?` to its end) each count one".
@@ -22,13 +22,16 @@ pub record Inner : Type 0 where
   pub choice : Rule
 
 -- Behind an element that isn't a child. D: "`<` not followed by `<` or `=`" is 12 at "that byte: p, p + 1"; before those two it is the
--- number that anything else gets here.
+-- number n that anything else gets here.
+unfoldable pub sibling : ℕ → Rule
+sibling n =
+    starts (bytesOf "<<") ⇒ refuse n here
+    ∣ starts (bytesOf "<=") ⇒ refuse n here
+    ∣ refuse adjacent thisByte
+
 unfoldable pub noSibling : ℕ → Rule
 noSibling n =
-    after blanks (is "<") ⇒ blanks ⨾
-    (starts (bytesOf "<<") ⇒ refuse n here
-    ∣ starts (bytesOf "<=") ⇒ refuse n here
-    ∣ refuse adjacent thisByte)
+    after blanks (is "<") ⇒ blanks ⨾ sibling n
     ∣ done
 
 -- D: "Primary: name, number, string, `(conditional)`."
@@ -43,7 +46,7 @@ primary n =
 -- D: "Postfix: a primary, then any of `.name`, `[conditional]`, `(zero or more conditionals with commas between)`."
 unfoldable pub postfixTurn : Inner → Rule
 postfixTurn n =
-    after blanks (is ".") ⇒ blanks ⨾ step ⨾ blanks ⨾ word
+    after blanks (is ".") ⇒ blanks ⨾ expect "." ⨾ blanks ⨾ word
     ∣ after blanks (is "[") ⇒ blanks ⨾ n .bracket
     ∣ after blanks (is "(") ⇒ blanks ⨾ n .call
     ∣ stop

@@ -9,7 +9,7 @@ use Rattle.rules.specs.Rule.{Test, Rule, done, stop, step, refuse, when, after,
 use Rattle.rules.specs.Parse.{pick}
 use Rattle.jsx.specs.Refusal.{dashAfterDot}
 use Rattle.jsx.specs.Kind as Kind
-use Rattle.jsx.specs.Byte.{bytesOf, is, _‥_, _or_, letter, digit, need}
+use Rattle.jsx.specs.Byte.{bytesOf, is, _‥_, _or_, letter, digit, need, expect}
 use Rattle.jsx.specs.Blank.{blanks}
 
 -- D: "Name part: a letter, `_` or `$`, then letters, digits, `_`, `$`, `-`."
@@ -67,7 +67,7 @@ otherPart = wrap (λ o. node Kind.otherPart (dashed (direct o))) part
 
 -- D: "`part:part`"; "6 holds two 16".
 unfoldable pub namespaced : Rule
-namespaced = nodeOf Kind.namespaced (otherPart ⨾ blanks ⨾ step ⨾ blanks ⨾ otherPart)
+namespaced = nodeOf Kind.namespaced (otherPart ⨾ blanks ⨾ expect ":" ⨾ blanks ⨾ otherPart)
 
 -- D: "After a dot no part may hold `-`"; 10 at "that part", "as soon as the part ends".
 unfoldable pub dottedPart : Rule
@@ -82,7 +82,7 @@ object = wrap (λ o. objectName (direct o)) part
 
 unfoldable pub dotted : Rule
 dotted =
-    after blanks (is ".") ⇒ blanks ⨾ step ⨾ blanks ⨾ dottedPart
+    after blanks (is ".") ⇒ blanks ⨾ expect "." ⨾ blanks ⨾ dottedPart
     ∣ stop
 
 -- D: "`part.part.part..`"; the first part may hold a dash.

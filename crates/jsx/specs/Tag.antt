@@ -1,5 +1,5 @@
 -- Attributes and tags. Chapters 'Markup' and 'The table'.
-use Rattle.rules.specs.Rule.{Rule, done, stop, step, when, after, seq, many, nodeOf, _⨾_, _⇒_∣_}
+use Rattle.rules.specs.Rule.{Rule, done, stop, when, after, seq, many, nodeOf, _⨾_, _⇒_∣_}
 use Rattle.jsx.specs.Refusal.{unexpected}
 use Rattle.jsx.specs.Kind as Kind
 use Rattle.jsx.specs.Byte.{is, quote, need, expect, _or_}
@@ -19,7 +19,7 @@ value n =
 -- D: "name (part or `part:part`), optionally `=` and" a value.
 unfoldable pub initializer : Inner → Rule
 initializer n =
-    after blanks (is "=") ⇒ blanks ⨾ step ⨾ blanks ⨾ value n
+    after blanks (is "=") ⇒ blanks ⨾ expect "=" ⨾ blanks ⨾ value n
     ∣ done
 
 unfoldable pub namedAttribute : Inner → Rule
@@ -49,7 +49,7 @@ unfoldable pub openTag : Inner → Rule
 openTag n = nodeOf Kind.openingTag (pass ⨾ elementName ⨾ attributes n ⨾ tagEnd)
 
 unfoldable pub openFragment : Rule
-openFragment = nodeOf Kind.openingTag (pass ⨾ step)
+openFragment = nodeOf Kind.openingTag (pass ⨾ expect ">")
 
 -- D: "17 its name if any".
 unfoldable pub closeName : Rule

@@ -32,8 +32,9 @@ direct nil = []
 direct (byte b u) = b ∷ direct u
 direct (group l c u) = direct u
 
--- What is inside its first group.
+-- What is inside its first node.
 unfoldable pub inside : Forest → Forest
 inside nil = nil
 inside (byte b u) = inside u
-inside (group l c u) = c
+inside (group (node k x) c u) = c
+inside (group (content d) c u) = inside u
