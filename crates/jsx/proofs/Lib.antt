@@ -1,3 +1,6 @@
 -- What is proved of the definition.
 pub mod Case
 pub mod Marked
+pub mod Examples
+pub mod Readings
+pub mod Calls
