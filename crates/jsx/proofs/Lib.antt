@@ -4,3 +4,5 @@ pub mod Marked
 pub mod Examples
 pub mod Readings
 pub mod Calls
+pub mod Steady
+pub mod Shape

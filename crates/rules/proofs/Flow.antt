@@ -1,0 +1,124 @@
+-- How far a reading has looked beyond the place where it ends. A rule takes what was looked at before it to what was looked at after it.
+use mathlib.Core.Path.{_≡_, refl}
+use mathlib.Core.Bool.{Bool, true, false}
+use mathlib.Core.List.{List, [], _∷_}
+use Prim.Native.Nat.{ℕ}
+use lib.Dec.{eqb}
+use Rattle.rules.specs.Forest.{Label, node, content, Forest}
+use Rattle.rules.specs.Rule.{Place, Test, Verdict, fine, differ, Rule, done, stop, step, refuse, when, starts, after, seq, many, wrap, said, marked, paired}
+use Rattle.rules.specs.Parse.{pick}
+use Rattle.rules.proofs.Run.{goes, never}
+use Rattle.rules.proofs.Agree.{Lacks}
+use Rattle.rules.proofs.Moves.{moves}
+use Rattle.rules.proofs.Spots.{Spot, fill}
+
+-- Looked at: nothing behind the end, and the last byte is one that closes; nothing behind the end; the byte at the end; or all that a rule reads from the end on,
+-- and the byte behind that.
+pub data Mode : Type 0 where
+  shut : Mode
+  tight : Mode
+  near : Mode
+  pend : Rule → Mode
+
+infix 30 _⊑_
+-- No further than.
+pub data _⊑_ : Mode → Mode → Type 0 where
+  same : {m : Mode} → m ⊑ m
+  shut-tight : shut ⊑ tight
+  shut-near : shut ⊑ near
+  shut-pend : {r : Rule} → shut ⊑ pend r
+  tight-near : tight ⊑ near
+  tight-pend : {r : Rule} → tight ⊑ pend r
+  near-pend : {r : Rule} → near ⊑ pend r
+
+-- The byte here was looked at.
+pub data Seen : Mode → Type 0 where
+  seen-near : Seen near
+  seen-pend : {r : Rule} → Seen (pend r)
+
+-- A rule that makes no content.
+unfoldable pub clear : Rule → Bool
+clear done = true
+clear stop = true
+clear step = true
+clear (refuse n w) = true
+clear (when f t u) = pick (clear t) (clear u) false
+clear (starts w t u) = pick (clear t) (clear u) false
+clear (after r f t u) = pick (clear t) (clear u) false
+clear (seq t u) = pick (clear t) (clear u) false
+clear (many t) = clear t
+clear (wrap f t) = clear t
+clear (said f r t u) = pick (clear r) (pick (clear t) (clear u) false) false
+clear (marked t) = clear t
+clear (paired t d c u v) = false
+
+-- A rule that has passed a byte wherever it goes on.
+unfoldable pub advances : Rule → Bool
+advances done = false
+advances stop = true
+advances step = true
+advances (refuse n w) = true
+advances (when f t u) = pick (advances t) (advances u) false
+advances (starts w t u) = pick (advances t) (advances u) false
+advances (after r f t u) = pick (advances t) (advances u) false
+advances (seq t u) = pick (advances t) true (advances u)
+advances (many t) = false
+advances (wrap f t) = advances t
+advances (said f r t u) = pick (advances r) true (pick (advances t) (advances u) false)
+advances (marked t) = advances t
+advances (paired t d c u v) = moves t
+
+-- Whether no byte of these passes the test.
+unfoldable pub lacking : Test → List ℕ → Bool
+lacking q [] = true
+lacking q (b ∷ w) = pick (q b) false (lacking q w)
+
+pub lacking-lacks : (q : Test) (w : List ℕ) → lacking q w ≡ true → Lacks q w
+unfolding lacking
+lacking-lacks q [] h = tt
+lacking-lacks q (b ∷ w) h = go (q b) refl h (λ k. lacking-lacks q w k)
+  where
+    go : (c : Bool) → q b ≡ c → pick c false (lacking q w) ≡ true → (lacking q w ≡ true → Lacks q w) → (q b ≡ false) × Lacks q w
+    go true e k ih = never k
+    go false e k ih = (e, ih k)
+
+abbrev pub IsNode : Label → Type 0
+IsNode (node k x) = Unit {0}
+IsNode (content d) = ⊥
+
+abbrev pub Numbered : Verdict → Type 0
+Numbered fine = Unit {0}
+Numbered (differ n a b c d) = eqb n 0 ≡ false
+
+-- A label that makes a node, and does not see what stands in a content.
+pub record Steady (l : Forest → Label) : Type 0 where
+  pub plain : (o : Forest) → IsNode (l o)
+  pub stays : {d : ℕ} {c₀ o : Forest} (ω : Spot d c₀ o) (c₁ : Forest) → l (fill ω c₁) ≡ l o
+
+-- A verdict that refuses by a number, and does not see what stands in a content of the opening tag.
+pub record Fair (v : Forest → Forest → Verdict) : Type 0 where
+  pub numbered : (o r : Forest) → Numbered (v o r)
+  pub stays : {d : ℕ} {c₀ o : Forest} (ω : Spot d c₀ o) (c₁ r : Forest) → v o r ≡ fine → v (fill ω c₁) r ≡ fine
+
+-- C: what reads a content with that depth left inside it. Q: the bytes that close; no `starts` asks for one of them.
+-- From a mode, a rule, to a mode where it goes on, and to a mode where it stops.
+pub data Flow (C : ℕ → Rule) (Q : Test) : Mode → Rule → Mode → Mode → Type 0 where
+  f-weak : {i i′ g g′ k k′ : Mode} {t : Rule} → i ⊑ i′ → g ⊑ g′ → k ⊑ k′ → Flow C Q i′ t g k → Flow C Q i t g′ k′
+  f-done : {i k : Mode} → Flow C Q i done i k
+  f-stop : {i g : Mode} → Flow C Q i stop g i
+  f-step : {k : Mode} → Flow C Q near step tight k
+  f-refuse : {i g k : Mode} {n : ℕ} {w : Place} → eqb n 0 ≡ false → Flow C Q i (refuse n w) g k
+  f-when : {i g k : Mode} {f : Test} {t u : Rule} → Seen i → Flow C Q i t g k → Flow C Q i u g k → Flow C Q i (when f t u) g k
+  f-expect : {k : Mode} {f : Test} {u : Rule} → ((b : ℕ) → f b ≡ true → Q b ≡ true) → Flow C Q near u shut k → Flow C Q near (when f step u) shut k
+  f-starts : {i g k : Mode} {w : List ℕ} {t u : Rule} → Seen i → lacking Q w ≡ true → Flow C Q i t g k → Flow C Q i u g k → Flow C Q i (starts w t u) g k
+  f-after : {g k : Mode} {f : Test} {r t u : Rule} → goes r ≡ true → Flow C Q near r near near → Flow C Q (pend r) t g k → Flow C Q (pend r) u g k → Flow C Q (pend r) (after r f t u) g k
+  f-seq : {i m g k : Mode} {t u : Rule} → Flow C Q i t m k → Flow C Q m u g k → Flow C Q i (seq t u) g k
+  f-many : {m k k′ : Mode} {t : Rule} → advances t ≡ true → Flow C Q m t m k → Flow C Q m (many t) k k′
+  f-wrap : {i g k : Mode} {l : Forest → Label} {t : Rule} → Steady l → Flow C Q i t g k → Flow C Q i (wrap l t) g k
+  f-said : {i m g k : Mode} {f : Forest → Bool} {r t u : Rule} → clear r ≡ true → Flow C Q i r m k → Flow C Q m t g k → Flow C Q m u g k → Flow C Q i (said f r t u) g k
+  f-marked : {i g k : Mode} {t : Rule} → Flow C Q i t g k → Flow C Q i (marked t) g k
+  f-paired : {i m k k′ : Mode} {d : ℕ} {t u : Rule} {v : Forest → Forest → Verdict} → Fair v → advances t ≡ true → Flow C Q i t shut shut → goes (C d) ≡ true → Flow C Q shut (C d) m k′ → clear u ≡ true → Flow C Q m u shut shut
+      → Flow C Q i (paired t d (C d) u v) shut k
+  -- What was looked over is read: the first part of it, or all of it.
+  f-pass : {k : Mode} {t r : Rule} → goes t ≡ true → clear t ≡ true → Flow C Q near t near near → Flow C Q (pend (seq t r)) t (pend r) k
+  f-last : {k : Mode} {r : Rule} → goes r ≡ true → clear r ≡ true → Flow C Q near r near near → Flow C Q (pend r) r near k

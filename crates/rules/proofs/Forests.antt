@@ -1,0 +1,78 @@
+-- Forests behind forests: widths, counts and record tables add up.
+use mathlib.Core.Path.{_≡_, refl, sym, ap, _∙_}
+use mathlib.Core.List.{List, _++_, append-assoc}
+use Prim.Native.Nat.{ℕ, _+_, _*_}
+use native.Mathlib.Omega.{arith}
+use lib.ListN.{length, length-append}
+use Rattle.rules.specs.Forest.{node, content, Forest, nil, byte, group, _⋈_, width}
+use Rattle.rules.specs.Record.{rowWords, row, count, records}
+
+-- Nothing behind a forest is the forest.
+pub behind-nil : (u : Forest) → u ⋈ nil ≡ u
+unfolding _⋈_
+behind-nil nil = refl
+behind-nil (byte b u) = ap (byte b) (behind-nil u)
+behind-nil (group l c u) = ap (group l c) (behind-nil u)
+
+-- Nothing in front of a forest is the forest.
+pub nil-before : (u : Forest) → nil ⋈ u ≡ u
+unfolding _⋈_
+nil-before u = refl
+
+-- How three forests are bracketed does not matter.
+pub behind-assoc : (u v w : Forest) → (u ⋈ v) ⋈ w ≡ u ⋈ (v ⋈ w)
+unfolding _⋈_
+behind-assoc nil v w = refl
+behind-assoc (byte b u) v w = ap (byte b) (behind-assoc u v w)
+behind-assoc (group l c u) v w = ap (group l c) (behind-assoc u v w)
+
+-- Widths add up.
+pub width-behind : (u v : Forest) → width (u ⋈ v) ≡ width u + width v
+unfolding width _⋈_
+width-behind nil v = omega arith
+width-behind (byte b u) v = omega (arith, width-behind u v)
+width-behind (group l c u) v = omega (arith, width-behind u v)
+
+-- Counts add up.
+pub count-behind : (u v : Forest) → count (u ⋈ v) ≡ count u + count v
+unfolding count _⋈_
+count-behind nil v = omega arith
+count-behind (byte b u) v = count-behind u v
+count-behind (group (node k x) c u) v = omega (arith, count-behind u v)
+count-behind (group (content d) c u) v = omega (arith, count-behind u v)
+
+-- A table has a row for each node.
+pub length-records : (u : Forest) (at n par : ℕ) → length (records at n par u) ≡ rowWords * count u
+unfolding count records
+length-records nil at n par = refl
+length-records (byte b u) at n par = length-records u (at + 1) n par
+length-records (group (node k x) c u) at n par =
+    let h₁ = length-records c at (n + 1) n in
+    let h₂ = length-records u (at + width c) (n + (1 + count c)) par in
+    simp length-append (omega arith)
+length-records (group (content d) c u) at n par =
+    let h₁ = length-records c at n par in
+    let h₂ = length-records u (at + width c) (n + count c) par in
+    simp length-append (omega arith)
+
+-- The same place, number and parent give the same table.
+pub records-same : (u : Forest) {at at′ n n′ par par′ : ℕ} → at ≡ at′ → n ≡ n′ → par ≡ par′ → records at n par u ≡ records at′ n′ par′ u
+records-same u p q r = λ i. records (p i) (q i) (r i) u
+
+-- The table of one forest behind the other is the one's table, then the other's, further on.
+pub records-join : (u v : Forest) (at n par : ℕ) → records at n par (u ⋈ v) ≡ records at n par u ++ records (at + width u) (n + count u) par v
+unfolding count records width _⋈_
+records-join nil v at n par = records-same v (omega arith) (omega arith) refl
+records-join (byte b u) v at n par =
+    records-join u v (at + 1) n par ∙ ap (λ (t : List ℕ). records (at + 1) n par u ++ t) (records-same v (omega arith) refl refl)
+records-join (group (node k x) c u) v at n par =
+    ap (λ (t : List ℕ). row k at (at + width c) par (n + (1 + count c)) x t)
+    (ap (λ (t : List ℕ). records at (n + 1) n c ++ t)
+    (records-join u v (at + width c) (n + (1 + count c)) par
+    ∙ ap (λ (t : List ℕ). records (at + width c) (n + (1 + count c)) par u ++ t) (records-same v (omega arith) (omega arith) refl))
+    ∙ sym (append-assoc (records at (n + 1) n c) _ _))
+records-join (group (content d) c u) v at n par =
+    ap (λ (t : List ℕ). records at n par c ++ t)
+    (records-join u v (at + width c) (n + count c) par
+    ∙ ap (λ (t : List ℕ). records (at + width c) (n + count c) par u ++ t) (records-same v (omega arith) (omega arith) refl))
+    ∙ sym (append-assoc (records at n par c) _ _)

@@ -1,0 +1,23 @@
+-- Laws for every grammar.
+pub mod Forests
+pub mod Run
+pub mod Got
+pub mod Mark
+pub mod Local
+pub mod Ends
+pub mod Agree
+pub mod Moves
+pub mod Flat
+pub mod Deeper
+pub mod Spots
+pub mod Flow
+pub mod Advance
+pub mod Reach
+pub mod Found
+pub mod Hole
+pub mod Stuck
+pub mod Rows
+pub mod Moved
+pub mod Joined
+pub mod Edited
+pub mod Held
