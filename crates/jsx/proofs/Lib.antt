@@ -6,3 +6,7 @@ pub mod Readings
 pub mod Calls
 pub mod Steady
 pub mod Shape
+pub mod Goes
+pub mod Child
+pub mod Pieces
+pub mod Front

@@ -1,5 +1,5 @@
 -- No rule with a flow gets stuck: every refusal has a number of its own, and the turns of a loop suffice.
-use mathlib.Core.Path.{_≡_, refl, sym, ap, subst, _∙_}
+use mathlib.Core.Path.{_≡_, refl, sym, subst}
 use mathlib.Core.Bool.{Bool, true, false}
 use mathlib.Core.List.{List}
 use Prim.Native.Nat.{ℕ, zero, suc, _+_, _≤_, _<_}
@@ -7,11 +7,11 @@ use native.Mathlib.Omega.{arith}
 use lib.ListN.{length}
 use lib.Dec.{eqb, ltb}
 use borrow.Author.Tests.{lt-ltb}
-use Rattle.rules.specs.Forest.{Forest, nil, byte, group, content, _⋈_}
+use Rattle.rules.specs.Forest.{Forest, group, content, _⋈_}
 use Rattle.rules.specs.Rule.{Place, here, mark, fromMark, thisByte, Test, Verdict, fine, differ, Rule, step}
 use Rattle.rules.specs.Parse.{Answer, got, trouble, pick, andThen, behind, byteAt, opens, refusal, judged, repeat, parse, parseAll}
 use Rattle.rules.proofs.Ends.{top-got}
-use Rattle.rules.proofs.Flow.{Mode, Numbered, Fair, Flow, f-weak, f-done, f-stop, f-step, f-refuse, f-when, f-expect, f-starts, f-after, f-seq, f-many, f-wrap, f-said, f-marked, f-paired, f-pass, f-last}
+use Rattle.rules.proofs.Flow.{Mode, Numbered, Flow, f-weak, f-done, f-stop, f-step, f-refuse, f-when, f-expect, f-starts, f-after, f-seq, f-many, f-wrap, f-said, f-marked, f-paired, f-pass, f-last}
 use Rattle.rules.proofs.Advance.{advance}
 
 -- An answer that got something, or refuses by a number of which N holds.
