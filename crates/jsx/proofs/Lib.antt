@@ -10,3 +10,5 @@ pub mod Goes
 pub mod Child
 pub mod Pieces
 pub mod Front
+pub mod JoinRead
+pub mod ReplaceRead
