@@ -30,6 +30,7 @@ use Rattle.jsx.specs.Expression.{Inner}
 use Rattle.jsx.specs.Element.{child, children, fragmentIn, namedIn, elementIn, pairedOrNot}
 use Rattle.jsx.specs.Depth.{elementTooDeep, noLevel, level, within}
 use Rattle.jsx.proofs.Goes.{within-goes}
+use Rattle.jsx.proofs.Paired.{wellPaired}
 use Rattle.jsx.proofs.Shape.{contentOf, closer, L, pass-near, pass-goes, within-flow}
 
 -- ---- texts
@@ -207,7 +208,7 @@ module _ (s : List ℕ) (F e d : ℕ) where
   pub data Child (at : ℕ) (a : Bool) (o : Forest) (p : ℕ) : Type 0 where
     ends : a ≡ false → o ≡ nil → p ≡ at → inText (byteAt s at) ≡ false → Child at a o p
     aText : a ≡ true → inText (byteAt s at) ≡ true → (c : Forest) → o ≡ textNode (byte (byteAt s at) c) nil → repeat (tbody s F e) F (at + 1) ≡ got true c p → Child at a o p
-    other : a ≡ true → inText (byteAt s at) ≡ false → OneNode o → (r : Rule) → ReadsAs d (byteAt s at) r → parse s F r e at ≡ got true o p → Looks (Lacks closer) s p F r e at → Last contentOf closer s F shut p → Child at a o p
+    other : a ≡ true → inText (byteAt s at) ≡ false → OneNode o → (r : Rule) → ReadsAs d (byteAt s at) r → parse s F r e at ≡ got true o p → Looks (Lacks closer) s p F r e at → Last contentOf closer wellPaired s F shut p → Child at a o p
 
   pub child-of : (at : ℕ) {a : Bool} {o : Forest} {p : ℕ} → cbody at ≡ got a o p → Child at a o p
   unfolding child parse inText
@@ -227,14 +228,14 @@ module _ (s : List ℕ) (F e d : ℕ) where
               let ae = got-goes (parse s F (within d .element) e at) (goes-on s F (within d .element) (within-goes d .element) e at) k in
               let zt = z ∙ ap (λ (c : Bool). got c o p) ae in
               other ae (not-text b (code "<") y refl) (element-one s F e at d k) (angled d) (as-angled d b x y) zt
-              (reach contentOf closer s F (angled-flow d) e at true o p zt p (le-refl _) .0) (closes contentOf closer s F (angled-flow d) e at true o p zt tt)
+              (reach contentOf closer wellPaired s F (angled-flow d) e at true o p zt p (le-refl _) .0) (closes contentOf closer wellPaired s F (angled-flow d) e at true o p zt tt)
 
       on-brace : end b ≡ false → is "<" b ≡ false → is "{" b ≡ true → parse s F (within d .childBraces) e at ≡ got a o p → Child at a o p
       on-brace x y z k =
           let ae = got-goes (parse s F (within d .childBraces) e at) (goes-on s F (within d .childBraces) (within-goes d .childBraces) e at) k in
           let kt = k ∙ ap (λ (c : Bool). got c o p) ae in
           other ae (not-text b (code "{") z refl) (braces-one s F e at d k) (within d .childBraces) (as-braces d b x y z) kt
-          (reach contentOf closer s F (within-flow d .childBraces {k = shut}) e at true o p kt p (le-refl _) .0) (closes contentOf closer s F (within-flow d .childBraces {k = shut}) e at true o p kt tt)
+          (reach contentOf closer wellPaired s F (within-flow d .childBraces {k = shut}) e at true o p kt p (le-refl _) .0) (closes contentOf closer wellPaired s F (within-flow d .childBraces {k = shut}) e at true o p kt tt)
 
       go : (x y z w : Bool) → end b ≡ x → is "<" b ≡ y → is "{" b ≡ z → inText b ≡ w
           → pick x (got false nil at) (pick y (parse s F (angled d) e at) (pick z (parse s F (within d .childBraces) e at) (pick w (parse s F text e at) (trouble 6 at at 0 0)))) ≡ got a o p → Child at a o p

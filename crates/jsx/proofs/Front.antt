@@ -24,12 +24,13 @@ use Rattle.jsx.specs.Kind as Kind
 use Rattle.jsx.specs.Text.{inText}
 use Rattle.jsx.specs.Element.{child}
 use Rattle.jsx.specs.Depth.{within}
-use Rattle.jsx.proofs.Pieces.{anyByte}
+use Rattle.jsx.proofs.Pieces.{anyByte, anyNode}
+use Rattle.jsx.proofs.Paired.{wellPaired}
 use Rattle.jsx.proofs.Shape.{contentOf, closer}
 use Rattle.jsx.proofs.Child.{textLabel, textNode, inner, text-in, tbody, TextByte, tstop, tstep, text-byte, byte-step, byte-stop, text-ends, OneNode, cbody, Child, ends, aText, other, child-of, text-child, end-stop}
 
 -- The bytes of a text: no more is looked at than the byte behind them.
-texts-flow : Flow contentOf anyByte near (many inner) near near
+texts-flow : Flow contentOf anyByte anyNode near (many inner) near near
 unfolding advances
 texts-flow = f-many refl (f-when seen-near (f-weak same tight-near same f-step) f-stop)
 
@@ -96,7 +97,7 @@ module _ (x y : List ℕ) (px : Plain x) (Fx Fz e d : ℕ) (big : length (x ++ y
         turn-more (cbody (x ++ y) Fz e d) f″ at hz lt ∙ ap (behind (group k c nil)) ih ∙ ap (λ (n : Forest). got true n q) (sym me ∙ ap (λ (n : Forest). join textLabel n v) (sym ue))
 
     -- What stands in x, read in front of y.
-    xz : (t : Rule) (at : ℕ) {o : Forest} {p : ℕ} → parse x Fx t e at ≡ got true o p → Looks (Lacks closer) x p Fx t e at → Last contentOf closer x Fx shut p → at ≤ p → p ≤ length x → parse (x ++ y) Fz t e at ≡ got true o p
+    xz : (t : Rule) (at : ℕ) {o : Forest} {p : ℕ} → parse x Fx t e at ≡ got true o p → Looks (Lacks closer) x p Fx t e at → Last contentOf closer wellPaired x Fx shut p → at ≤ p → p ≤ length x → parse (x ++ y) Fz t e at ≡ got true o p
     xz t at {o} {p} h lk la up₁ le = let r = res in r .1 ∙ ap (λ (n : ℕ). got true o n) (omega arith)
       where
         res : (n : ℕ) × (parse (x ++ y) Fz t e at ≡ got true o n) × (p + 0 ≡ n + 0)
@@ -110,7 +111,7 @@ module _ (x y : List ℕ) (px : Plain x) (Fx Fz e d : ℕ) (big : length (x ++ y
         res : (n : ℕ) × (parse (x ++ y) Fz (many inner) e at ≡ got true c n) × (p + 0 ≡ n + 0)
         res = let g = long in local-got (Lacks anyByte) x (x ++ y) 0 0 at (1 + p) (1 + p) (omega arith)
             (before x (x ++ y) (1 + p) (λ m lm. byte-in x y m (omega arith)) (omega arith) (omega arith) anyByte (λ j ej. refl) at) Fx Fz (many inner) e e at at (omega arith) refl (le-refl _)
-            (reach contentOf anyByte x Fx texts-flow e at true c p h (1 + p) (omega arith) .0) h (omega arith)
+            (reach contentOf anyByte anyNode x Fx texts-flow e at true c p h (1 + p) (omega arith) .0) h (omega arith)
 
     -- x is at its end.
     empty : (f : ℕ) {u′ : Forest} {p : ℕ} → repeat (cbody x Fx e d) f (length x) ≡ got true u′ p → u′ ≡ nil

@@ -5,6 +5,7 @@ pub mod Examples
 pub mod Readings
 pub mod Calls
 pub mod Steady
+pub mod Paired
 pub mod Shape
 pub mod Goes
 pub mod Child

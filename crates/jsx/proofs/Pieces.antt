@@ -7,7 +7,7 @@ use native.Mathlib.Omega.{arith}
 use lib.ListN.{length, length-append}
 use lib.Dec.{eqb}
 use borrow.Author.Tests.{eqb-true}
-use Rattle.rules.specs.Forest.{Forest, nil, _⋈_}
+use Rattle.rules.specs.Forest.{Label, Forest, nil, _⋈_}
 use Rattle.rules.specs.Rule.{Test, Rule, done, stop, when, seq, marked}
 use Rattle.rules.specs.Parse.{Answer, got, trouble, pick, behind, byteAt, repeat, parse, parseAll}
 use Rattle.rules.proofs.Run.{never, goes, on, got-goes, behind-nil, loop-more}
@@ -29,23 +29,27 @@ use Rattle.jsx.specs.Utf8.{second, other, sequence, utf8}
 abbrev pub anyByte : Test
 anyByte b = true
 
+-- And every node is as it may be.
+abbrev pub anyNode : Label → Forest → Type 0
+anyNode l o = Unit {0}
+
 -- A turn of the loop.
 abbrev oneTurn : Rule
 oneTurn = when end stop (marked sequence)
 
 module _ (C : ℕ → Rule) where
-  flow-second : {k : Mode} (lo hi : ℕ) → Flow C anyByte near (second lo hi) tight k
+  flow-second : {k : Mode} (lo hi : ℕ) → Flow C anyByte anyNode near (second lo hi) tight k
   unfolding second
   flow-second lo hi = f-when seen-near f-step (f-refuse refl)
 
-  flow-other : {k : Mode} → Flow C anyByte near other tight k
+  flow-other : {k : Mode} → Flow C anyByte anyNode near other tight k
   unfolding other
   flow-other = flow-second 0x80 0xBF
 
-  flow-next : {t u : Rule} {k : Mode} → Flow C anyByte near t tight k → Flow C anyByte near u tight k → Flow C anyByte near (seq t u) tight k
+  flow-next : {t u : Rule} {k : Mode} → Flow C anyByte anyNode near t tight k → Flow C anyByte anyNode near u tight k → Flow C anyByte anyNode near (seq t u) tight k
   flow-next x y = f-seq x (f-weak tight-near same same y)
 
-  pub flow-sequence : {k : Mode} → Flow C anyByte near sequence tight k
+  pub flow-sequence : {k : Mode} → Flow C anyByte anyNode near sequence tight k
   unfolding sequence
   flow-sequence =
       f-when seen-near f-step
@@ -58,10 +62,10 @@ module _ (C : ℕ → Rule) where
       (f-when seen-near (flow-next f-step (flow-next (flow-second 0x80 0x8F) (flow-next flow-other flow-other)))
       (f-refuse refl))))))))
 
-  flow-turn : Flow C anyByte near oneTurn tight near
+  flow-turn : Flow C anyByte anyNode near oneTurn tight near
   flow-turn = f-when seen-near f-stop (f-marked flow-sequence)
 
-  pub flow-utf8 : {k : Mode} → Flow C anyByte near utf8 near k
+  pub flow-utf8 : {k : Mode} → Flow C anyByte anyNode near utf8 near k
   unfolding utf8 advances sequence second other
   flow-utf8 = f-many refl (f-weak same tight-near same flow-turn)
 
@@ -163,7 +167,7 @@ module _ (x y : List ℕ) where
   turn-same at {o} {p} i h =
       let n = length-append x y in
       let t : p ≤ length x = turn-within x at i h in
-      let l = reach (λ d. done) anyByte x (suc (length x)) (flow-turn (λ d. done)) 0 at true o p h (length x) t .0 in
+      let l = reach (λ d. done) anyByte anyNode x (suc (length x)) (flow-turn (λ d. done)) 0 at true o p h (length x) t .0 in
       let g = local-got (Lacks anyByte) x (x ++ y) 0 0 0 (length x) (suc (length x)) (omega arith)
       (before x (x ++ y) (length x) (byte-in x y) (omega arith) (omega arith) anyByte (λ j e. refl) 0)
       (suc (length x)) (suc (length (x ++ y))) oneTurn 0 0 at at (omega arith) refl (omega arith) l h (omega arith) in

@@ -22,6 +22,7 @@ use Rattle.rules.proofs.Joined.{join-nil}
 use Rattle.jsx.specs.Element.{child, children}
 use Rattle.jsx.specs.Depth.{within}
 use Rattle.jsx.specs.Reading.{stage, run}
+use Rattle.jsx.proofs.Paired.{wellPaired}
 use Rattle.jsx.proofs.Shape.{contentOf, closer, L, stage-flow, run-flow}
 use Rattle.jsx.proofs.Child.{textLabel, cbody, stops-at}
 use Rattle.jsx.proofs.Front.{front}
@@ -39,8 +40,8 @@ module _ (t : Rule) (g k : Mode) (ut : L near t g k) (s y : List ℕ) (py : Plai
   b : ℕ
   b = start ω + width c₀
 
-  f : Content contentOf closer s (suc (length s)) d c₀ (0 + start ω)
-  f = found contentOf closer s (suc (length s)) d c₀ ut 0 0 true u q hs tt ω .1
+  f : Content contentOf closer wellPaired s (suc (length s)) d c₀ (0 + start ω)
+  f = found contentOf closer wellPaired s (suc (length s)) d c₀ ut 0 0 true u q hs tt ω .1
 
   was : parse s (suc (length s)) (children (within d)) (f .at-mark) p ≡ got true c₀ b
   unfolding p b
@@ -118,7 +119,7 @@ module _ (t : Rule) (g k : Mode) (ut : L near t g k) (s y : List ℕ) (py : Plai
 
   replaced : Reads t s′ (fill ω v)
   unfolding Reads parseAll p
-  replaced = let X = refill contentOf closer s s′ d c₀ v p (p + length y) (width c₀) (length y) (omega (arith, bp, b-le)) (omega (arith, length-s′)) ante post (omega (arith, length-s′, length-z, bp)) (omega arith) (omega arith)
+  replaced = let X = refill contentOf closer wellPaired s s′ d c₀ v p (p + length y) (width c₀) (length y) (omega (arith, bp, b-le)) (omega (arith, length-s′)) ante post (omega (arith, length-s′, length-z, bp)) (omega arith) (omega arith)
       (λ j ej. let c = f .closed in subst (λ (n : ℕ). closer (byteAt s n) ≡ true) (omega (arith, c .1)) (c .2)) reads ut 0 0 0 true u q (omega arith) tt hs ω (omega arith) in
       (X .0, X .1)
 

@@ -6,6 +6,7 @@ use Prim.Native.Nat.{ℕ, zero, suc}
 use Prim.Native.Char.{Char, code}
 use lib.Dec.{eqb}
 use borrow.Author.Tests.{eqb-true}
+use Rattle.rules.specs.Forest.{node}
 use Rattle.rules.specs.Rule.{Place, here, Test, Rule, done, stop, step, refuse, when, starts, after, seq, many, wrap, said, marked, paired}
 use Rattle.rules.specs.Parse.{pick, endOfInput}
 use Rattle.rules.proofs.Run.{goes}
@@ -25,6 +26,7 @@ use Rattle.jsx.specs.Closing.{verdict}
 use Rattle.jsx.specs.Element.{child, children, fragmentIn, namedIn, elementIn}
 use Rattle.jsx.specs.Depth.{elementTooDeep, noLevel, level, within}
 use Rattle.jsx.specs.Reading.{stage, run}
+use Rattle.jsx.proofs.Paired.{pairedLabel, wellPaired, plain-fits, other-fits, one-fits, object-fits, element-fits, fragment-fits}
 use Rattle.jsx.proofs.Steady.{steady-node, steady-one-name, steady-other-part, steady-object-name, steady-element, fair-verdict}
 
 -- What reads a content with d levels left inside it.
@@ -36,7 +38,7 @@ unfoldable pub closer : Test
 closer = is ">" or is "}"
 
 abbrev pub L : Mode → Rule → Mode → Mode → Type 0
-L i t g k = Flow contentOf closer i t g k
+L i t g k = Flow contentOf closer wellPaired i t g k
 
 -- ---- bytes
 
@@ -144,11 +146,11 @@ look-goes = refl
 
 otherPart-near : {k : Mode} → L near otherPart near k
 unfolding otherPart
-otherPart-near = f-wrap steady-other-part part-near
+otherPart-near = f-wrap steady-other-part (other-fits part) part-near
 
 otherPart-again : {k : Mode} → L (pend (seq part blanks)) otherPart (pend blanks) k
 unfolding otherPart
-otherPart-again = f-wrap steady-other-part part-again
+otherPart-again = f-wrap steady-other-part (other-fits part) part-again
 
 otherPart-clear : clear otherPart ≡ true
 unfolding clear otherPart part need
@@ -156,7 +158,7 @@ otherPart-clear = refl
 
 namespaced-again : {k : Mode} → L (pend (seq part blanks)) namespaced (pend blanks) k
 unfolding namespaced
-namespaced-again = f-wrap (steady-node Kind.namespaced) (f-seq otherPart-again (f-seq blanks-again (f-seq (expect-near ":") (f-seq blanks-near (f-weak same near-pend same otherPart-near)))))
+namespaced-again = f-wrap (steady-node Kind.namespaced) (plain-fits Kind.namespaced _ refl) (f-seq otherPart-again (f-seq blanks-again (f-seq (expect-near ":") (f-seq blanks-near (f-weak same near-pend same otherPart-near)))))
 
 dottedPart-near : {k : Mode} → L near dottedPart near k
 unfolding dottedPart
@@ -168,11 +170,11 @@ dotted-flow = after-blanks (f-seq (expect-near ".") (f-seq blanks-near (f-weak s
 
 member-again : {k : Mode} → L (pend (seq part blanks)) member (pend blanks) k
 unfolding member object advances dotted blanks expect need
-member-again = f-wrap (steady-node Kind.member) (f-seq (f-wrap steady-object-name part-again) (f-many refl dotted-flow))
+member-again = f-wrap (steady-node Kind.member) (plain-fits Kind.member _ refl) (f-seq (f-wrap steady-object-name (object-fits part) part-again) (f-many refl dotted-flow))
 
 onePart-again : {k : Mode} → L (pend (seq part blanks)) onePart (pend blanks) k
 unfolding onePart
-onePart-again = f-wrap steady-one-name part-again
+onePart-again = f-wrap steady-one-name (one-fits part) part-again
 
 pub elementName-flow : {k : Mode} → L near elementName (pend blanks) k
 unfolding elementName
@@ -186,7 +188,7 @@ attributeName-flow = f-weak near-pend same same (f-after look-goes look-near nam
 
 pub text-near : {k : Mode} → L near text near k
 unfolding text
-text-near = f-wrap (steady-node Kind.text) (f-seq step-near (bytes-near inText))
+text-near = f-wrap (steady-node Kind.text) (plain-fits Kind.text _ refl) (f-seq step-near (bytes-near inText))
 
 quotedBy-near : (q : Char) → {k : Mode} → L near (quotedBy q) near k
 unfolding quotedBy quotedTurn advances
@@ -194,7 +196,7 @@ quotedBy-near q = f-marked (f-seq step-near (f-seq (f-many refl (f-when seen-nea
 
 quoted-near : {k : Mode} → L near quoted near k
 unfolding quoted
-quoted-near = f-wrap (steady-node Kind.quoted) (f-when seen-near (quotedBy-near "'") (quotedBy-near "\""))
+quoted-near = f-wrap (steady-node Kind.quoted) (plain-fits Kind.quoted _ refl) (f-when seen-near (quotedBy-near "'") (quotedBy-near "\""))
 
 word-near : {k : Mode} → L near word near k
 unfolding word
@@ -323,7 +325,7 @@ module _ (n : Inner) (h : InnerFlow n) where
 
   expression-flow : {k : Mode} → L near (expression n) (pend blanks) k
   unfolding expression
-  expression-flow = f-wrap (steady-node Kind.expression) conditional-flow
+  expression-flow = f-wrap (steady-node Kind.expression) (plain-fits Kind.expression _ refl) conditional-flow
 
   -- To a closing byte, from an opening one that may have been looked over.
   parenIn-near : {k : Mode} → L near (parenIn n) near k
@@ -358,23 +360,23 @@ module _ (n : Inner) (h : InnerFlow n) where
 
   container-again : {k : Mode} → L (pend pass) (container n) shut k
   unfolding container
-  container-again = f-wrap (steady-node Kind.container) (f-seq pass-again (f-seq expression-flow (f-seq blanks-again closeContainer-shut)))
+  container-again = f-wrap (steady-node Kind.container) (plain-fits Kind.container _ refl) (f-seq pass-again (f-seq expression-flow (f-seq blanks-again closeContainer-shut)))
 
   emptyBraces-again : {k : Mode} → L (pend pass) emptyBraces shut k
   unfolding emptyBraces pass closer goes clear
-  emptyBraces-again = f-wrap (steady-node Kind.container) (f-seq (f-pass refl refl step-near) (f-seq (f-wrap (steady-node Kind.emptyExpression) blanks-again) (expect-shut "}" refl)))
+  emptyBraces-again = f-wrap (steady-node Kind.container) (plain-fits Kind.container _ refl) (f-seq (f-pass refl refl step-near) (f-seq (f-wrap (steady-node Kind.emptyExpression) (plain-fits Kind.emptyExpression _ refl) blanks-again) (expect-shut "}" refl)))
 
   dots-near : {k : Mode} → L near dots near k
   unfolding dots lacking closer
   dots-near = f-starts seen-near refl (f-seq step-near (f-seq step-near step-near)) (f-when seen-near (f-refuse refl) (need-flow seen-near))
 
-  spread-again : (x : ℕ) {k : Mode} → L (pend pass) (spread x n) shut k
+  spread-again : (x : ℕ) → pairedLabel (node x 0) ≡ false → {k : Mode} → L (pend pass) (spread x n) shut k
   unfolding spread closer
-  spread-again x = f-wrap (steady-node x) (f-seq pass-again (f-seq dots-near (f-seq blanks-near (f-seq expression-flow (f-seq blanks-again (expect-shut "}" refl))))))
+  spread-again x e = f-wrap (steady-node x) (plain-fits x _ e) (f-seq pass-again (f-seq dots-near (f-seq blanks-near (f-seq expression-flow (f-seq blanks-again (expect-shut "}" refl))))))
 
   childBracesIn-shut : {k : Mode} → L near (childBracesIn n) shut k
   unfolding childBracesIn
-  childBracesIn-shut = f-weak near-pend same same (f-after pass-goes pass-near emptyBraces-again (f-after pass-goes pass-near (spread-again Kind.spreadChild) container-again))
+  childBracesIn-shut = f-weak near-pend same same (f-after pass-goes pass-near emptyBraces-again (f-after pass-goes pass-near (spread-again Kind.spreadChild refl) container-again))
 
   emptyValue-again : {k : Mode} → L (pend pass) emptyValueBraces shut k
   unfolding emptyValueBraces
@@ -393,7 +395,7 @@ module _ (n : Inner) (h : InnerFlow n) where
   attribute-flow : {k : Mode} → L near (attribute n) (pend blanks) k
   unfolding attribute namedAttribute initializer
   attribute-flow = f-when seen-near (f-weak same shut-pend same (h .spreadBraces))
-      (f-wrap (steady-node Kind.attribute) (f-seq attributeName-flow (after-blanks (f-seq (expect-near "=") (f-seq blanks-near value-flow)) f-done)))
+      (f-wrap (steady-node Kind.attribute) (plain-fits Kind.attribute _ refl) (f-seq attributeName-flow (after-blanks (f-seq (expect-near "=") (f-seq blanks-near value-flow)) f-done)))
 
   attributeTurn-flow : L (pend blanks) (attributeTurn n) (pend blanks) near
   unfolding attributeTurn
@@ -413,7 +415,7 @@ module _ (n : Inner) (h : InnerFlow n) where
 
   pub openTag-again : L (pend pass) (openTag n) shut shut
   unfolding openTag
-  openTag-again = f-wrap (steady-node Kind.openingTag) (f-seq pass-again (f-seq elementName-flow (f-seq attributes-flow tagEnd-shut)))
+  openTag-again = f-wrap (steady-node Kind.openingTag) (plain-fits Kind.openingTag _ refl) (f-seq pass-again (f-seq elementName-flow (f-seq attributes-flow tagEnd-shut)))
 
   openTag-advances : advances (openTag n) ≡ true
   unfolding openTag advances pass
@@ -437,7 +439,7 @@ module _ (n : Inner) (h : InnerFlow n) where
 
 openFragment-again : L (pend pass) openFragment shut shut
 unfolding openFragment closer
-openFragment-again = f-wrap (steady-node Kind.openingTag) (f-seq pass-again (expect-shut ">" refl))
+openFragment-again = f-wrap (steady-node Kind.openingTag) (plain-fits Kind.openingTag _ refl) (f-seq pass-again (expect-shut ">" refl))
 
 openFragment-advances : advances openFragment ≡ true
 unfolding openFragment advances pass
@@ -449,7 +451,7 @@ closeName-flow = f-when seen-near (f-weak same near-pend same f-done) elementNam
 
 closeTag-again : {k : Mode} → L (pend pass) closeTag shut k
 unfolding closeTag expect pass goes clear closer
-closeTag-again = f-wrap (steady-node Kind.closingTag)
+closeTag-again = f-wrap (steady-node Kind.closingTag) (plain-fits Kind.closingTag _ refl)
     (f-seq (f-when seen-pend (f-pass refl refl step-near) (need-flow seen-pend)) (f-seq blanks-again (f-seq (f-when seen-near step-near (need-flow seen-near)) (f-seq blanks-near (f-seq closeName-flow (f-seq blanks-again (expect-shut ">" refl)))))))
 
 closeTag-clear : clear closeTag ≡ true
@@ -464,11 +466,11 @@ children-goes n = refl
 module _ (d : ℕ) (h : InnerFlow (within d)) where
   fragmentIn-again : {k : Mode} → L (pend pass) (fragmentIn d (within d)) shut k
   unfolding fragmentIn
-  fragmentIn-again = f-wrap (steady-node Kind.fragment) (f-paired {k′ = shut} fair-verdict openFragment-advances openFragment-again (children-goes (within d)) (f-weak shut-near same same (children-flow (within d) h)) closeTag-clear closeTag-again)
+  fragmentIn-again = f-wrap (steady-node Kind.fragment) (fragment-fits d (within d)) (f-paired {k′ = shut} fair-verdict openFragment-advances openFragment-again (children-goes (within d)) (f-weak shut-near same same (children-flow (within d) h)) closeTag-clear closeTag-again)
 
   namedIn-again : {k : Mode} → L (pend pass) (namedIn d (within d)) shut k
   unfolding namedIn
-  namedIn-again = f-wrap steady-element (f-paired {k′ = shut} fair-verdict (openTag-advances (within d) h) (openTag-again (within d) h) (children-goes (within d)) (f-weak shut-near same same (children-flow (within d) h)) closeTag-clear closeTag-again)
+  namedIn-again = f-wrap steady-element (element-fits d (within d)) (f-paired {k′ = shut} fair-verdict (openTag-advances (within d) h) (openTag-again (within d) h) (children-goes (within d)) (f-weak shut-near same same (children-flow (within d) h)) closeTag-clear closeTag-again)
 
   elementIn-again : {k : Mode} → L (pend pass) (elementIn d (within d)) shut k
   unfolding elementIn
@@ -530,7 +532,7 @@ within-flow (suc d) = let n = within d in let h = within-flow d in record {
   element = elementIn-again d h;
   childBraces = childBracesIn-shut n h;
   valueBraces = valueBracesIn-shut n h;
-  spreadBraces = f-weak near-pend same same (spread-again n h Kind.spreadAttribute);
+  spreadBraces = f-weak near-pend same same (spread-again n h Kind.spreadAttribute refl);
   paren = parenIn-near n h;
   bracket = bracketIn-near n h;
   call = callIn-near n h;

@@ -6,7 +6,7 @@ use Prim.Native.Nat.{ℕ}
 use lib.Dec.{eqb}
 use Rattle.rules.specs.Forest.{Label, node, content, Forest}
 use Rattle.rules.specs.Rule.{Place, Test, Verdict, fine, differ, Rule, done, stop, step, refuse, when, starts, after, seq, many, wrap, said, marked, paired}
-use Rattle.rules.specs.Parse.{pick}
+use Rattle.rules.specs.Parse.{got, pick, parse}
 use Rattle.rules.proofs.Run.{goes, never}
 use Rattle.rules.proofs.Agree.{Lacks}
 use Rattle.rules.proofs.Moves.{moves}
@@ -100,25 +100,29 @@ pub record Fair (v : Forest → Forest → Verdict) : Type 0 where
   pub numbered : (o r : Forest) → Numbered (v o r)
   pub stays : {d : ℕ} {c₀ o : Forest} (ω : Spot d c₀ o) (c₁ r : Forest) → v o r ≡ fine → v (fill ω c₁) r ≡ fine
 
--- C: what reads a content with that depth left inside it. Q: the bytes that close; no `starts` asks for one of them.
+-- What the rule reads, under the label that is made of it, has a property.
+abbrev pub Fitting : (R : Label → Forest → Type 0) (l : Forest → Label) (t : Rule) → Type 0
+Fitting R l t = (s : List ℕ) (F e at : ℕ) (a : Bool) (o : Forest) (p : ℕ) → parse s F t e at ≡ got a o p → R (l o) o
+
+-- C: what reads a content with that depth left inside it. Q: the bytes that close; no `starts` asks for one of them. R: what holds of every node.
 -- From a mode, a rule, to a mode where it goes on, and to a mode where it stops.
-pub data Flow (C : ℕ → Rule) (Q : Test) : Mode → Rule → Mode → Mode → Type 0 where
-  f-weak : {i i′ g g′ k k′ : Mode} {t : Rule} → i ⊑ i′ → g ⊑ g′ → k ⊑ k′ → Flow C Q i′ t g k → Flow C Q i t g′ k′
-  f-done : {i k : Mode} → Flow C Q i done i k
-  f-stop : {i g : Mode} → Flow C Q i stop g i
-  f-step : {k : Mode} → Flow C Q near step tight k
-  f-refuse : {i g k : Mode} {n : ℕ} {w : Place} → eqb n 0 ≡ false → Flow C Q i (refuse n w) g k
-  f-when : {i g k : Mode} {f : Test} {t u : Rule} → Seen i → Flow C Q i t g k → Flow C Q i u g k → Flow C Q i (when f t u) g k
-  f-expect : {k : Mode} {f : Test} {u : Rule} → ((b : ℕ) → f b ≡ true → Q b ≡ true) → Flow C Q near u shut k → Flow C Q near (when f step u) shut k
-  f-starts : {i g k : Mode} {w : List ℕ} {t u : Rule} → Seen i → lacking Q w ≡ true → Flow C Q i t g k → Flow C Q i u g k → Flow C Q i (starts w t u) g k
-  f-after : {g k : Mode} {f : Test} {r t u : Rule} → goes r ≡ true → Flow C Q near r near near → Flow C Q (pend r) t g k → Flow C Q (pend r) u g k → Flow C Q (pend r) (after r f t u) g k
-  f-seq : {i m g k : Mode} {t u : Rule} → Flow C Q i t m k → Flow C Q m u g k → Flow C Q i (seq t u) g k
-  f-many : {m k k′ : Mode} {t : Rule} → advances t ≡ true → Flow C Q m t m k → Flow C Q m (many t) k k′
-  f-wrap : {i g k : Mode} {l : Forest → Label} {t : Rule} → Steady l → Flow C Q i t g k → Flow C Q i (wrap l t) g k
-  f-said : {i m g k : Mode} {f : Forest → Bool} {r t u : Rule} → clear r ≡ true → Flow C Q i r m k → Flow C Q m t g k → Flow C Q m u g k → Flow C Q i (said f r t u) g k
-  f-marked : {i g k : Mode} {t : Rule} → Flow C Q i t g k → Flow C Q i (marked t) g k
-  f-paired : {i m k k′ : Mode} {d : ℕ} {t u : Rule} {v : Forest → Forest → Verdict} → Fair v → advances t ≡ true → Flow C Q i t shut shut → goes (C d) ≡ true → Flow C Q shut (C d) m k′ → clear u ≡ true → Flow C Q m u shut shut
-      → Flow C Q i (paired t d (C d) u v) shut k
+pub data Flow (C : ℕ → Rule) (Q : Test) (R : Label → Forest → Type 0) : Mode → Rule → Mode → Mode → Type 0 where
+  f-weak : {i i′ g g′ k k′ : Mode} {t : Rule} → i ⊑ i′ → g ⊑ g′ → k ⊑ k′ → Flow C Q R i′ t g k → Flow C Q R i t g′ k′
+  f-done : {i k : Mode} → Flow C Q R i done i k
+  f-stop : {i g : Mode} → Flow C Q R i stop g i
+  f-step : {k : Mode} → Flow C Q R near step tight k
+  f-refuse : {i g k : Mode} {n : ℕ} {w : Place} → eqb n 0 ≡ false → Flow C Q R i (refuse n w) g k
+  f-when : {i g k : Mode} {f : Test} {t u : Rule} → Seen i → Flow C Q R i t g k → Flow C Q R i u g k → Flow C Q R i (when f t u) g k
+  f-expect : {k : Mode} {f : Test} {u : Rule} → ((b : ℕ) → f b ≡ true → Q b ≡ true) → Flow C Q R near u shut k → Flow C Q R near (when f step u) shut k
+  f-starts : {i g k : Mode} {w : List ℕ} {t u : Rule} → Seen i → lacking Q w ≡ true → Flow C Q R i t g k → Flow C Q R i u g k → Flow C Q R i (starts w t u) g k
+  f-after : {g k : Mode} {f : Test} {r t u : Rule} → goes r ≡ true → Flow C Q R near r near near → Flow C Q R (pend r) t g k → Flow C Q R (pend r) u g k → Flow C Q R (pend r) (after r f t u) g k
+  f-seq : {i m g k : Mode} {t u : Rule} → Flow C Q R i t m k → Flow C Q R m u g k → Flow C Q R i (seq t u) g k
+  f-many : {m k k′ : Mode} {t : Rule} → advances t ≡ true → Flow C Q R m t m k → Flow C Q R m (many t) k k′
+  f-wrap : {i g k : Mode} {l : Forest → Label} {t : Rule} → Steady l → Fitting R l t → Flow C Q R i t g k → Flow C Q R i (wrap l t) g k
+  f-said : {i m g k : Mode} {f : Forest → Bool} {r t u : Rule} → clear r ≡ true → Flow C Q R i r m k → Flow C Q R m t g k → Flow C Q R m u g k → Flow C Q R i (said f r t u) g k
+  f-marked : {i g k : Mode} {t : Rule} → Flow C Q R i t g k → Flow C Q R i (marked t) g k
+  f-paired : {i m k k′ : Mode} {d : ℕ} {t u : Rule} {v : Forest → Forest → Verdict} → Fair v → advances t ≡ true → Flow C Q R i t shut shut → goes (C d) ≡ true → Flow C Q R shut (C d) m k′ → clear u ≡ true → Flow C Q R m u shut shut
+      → Flow C Q R i (paired t d (C d) u v) shut k
   -- What was looked over is read: the first part of it, or all of it.
-  f-pass : {k : Mode} {t r : Rule} → goes t ≡ true → clear t ≡ true → Flow C Q near t near near → Flow C Q (pend (seq t r)) t (pend r) k
-  f-last : {k : Mode} {r : Rule} → goes r ≡ true → clear r ≡ true → Flow C Q near r near near → Flow C Q (pend r) r near k
+  f-pass : {k : Mode} {t r : Rule} → goes t ≡ true → clear t ≡ true → Flow C Q R near t near near → Flow C Q R (pend (seq t r)) t (pend r) k
+  f-last : {k : Mode} {r : Rule} → goes r ≡ true → clear r ≡ true → Flow C Q R near r near near → Flow C Q R (pend r) r near k

@@ -19,7 +19,7 @@ use Rattle.rules.proofs.Flow.{Mode, shut, tight, near, pend, _⊑_, sam
 use Rattle.rules.proofs.Advance.{advance}
 use Rattle.rules.proofs.Reach.{Bound, bound-weak, step-got, Claim, reach}
 
-module _ (C : ℕ → Rule) (Q : Test) (s : List ℕ) (F : ℕ) where
+module _ (C : ℕ → Rule) (Q : Test) (R : Label → Forest → Type 0) (s : List ℕ) (F : ℕ) where
   -- ---- the last byte
 
   -- Where a mode is shut, the byte before the place closes.
@@ -55,18 +55,18 @@ module _ (C : ℕ → Rule) (Q : Test) (s : List ℕ) (F : ℕ) where
       on-turn (last x) ih = la at o p x l
       on-turn (goon o₁ q v x lt r w) ih = ih q v r (go at o₁ q x l)
 
-  pub closes : {i g k : Mode} {t : Rule} → Flow C Q i t g k → (e at : ℕ) (a : Bool) (o : Forest) (p : ℕ) → parse s F t e at ≡ got a o p → Last i at → Last (pick a g k) p
+  pub closes : {i g k : Mode} {t : Rule} → Flow C Q R i t g k → (e at : ℕ) (a : Bool) (o : Forest) (p : ℕ) → parse s F t e at ≡ got a o p → Last i at → Last (pick a g k) p
   unfolding parse
   closes (f-weak wi wg wk x) e at a o p h l = last-pick a p wg wk (closes x e at a o p h (last-weak at wi l))
   closes (f-done {i} {k}) e at a o p h l = let x = got-same h in last-is i k (x .0) (x .2) l
   closes (f-stop {i} {g}) e at a o p h l = let x = got-same h in last-is g i (x .0) (x .2) l
-  closes (f-step {k}) e at a o p h l = let x = step-got C Q s F e at h in last-is tight k (sym (x .0)) refl tt
+  closes (f-step {k}) e at a o p h l = let x = step-got C Q R s F e at h in last-is tight k (sym (x .0)) refl tt
   closes (f-refuse {n = n} {w = w} x) e at a o p h l = refusal-got n w e at h
   closes (f-when {f = f} {t} {u} sn x y) e at a o p h l = pick-case (f (byteAt s at)) (parse s F t e at) (parse s F u e at) h (λ z. closes x e at a o p z l) (λ z. closes y e at a o p z l)
   closes (f-expect {k} {f} {u} q x) e at a o p h l = by (f (byteAt s at)) refl h (λ z. closes x e at a o p z l)
     where
       by : (c : Bool) → f (byteAt s at) ≡ c → pick c (parse s F step e at) (parse s F u e at) ≡ got a o p → (parse s F u e at ≡ got a o p → Last (pick a shut k) p) → Last (pick a shut k) p
-      by true c z ih = let y = step-got C Q s F e at z in last-is shut k (sym (y .0)) refl (at, sym (y .1), q (byteAt s at) c)
+      by true c z ih = let y = step-got C Q R s F e at z in last-is shut k (sym (y .0)) refl (at, sym (y .1), q (byteAt s at) c)
       by false c z ih = ih z
   closes (f-starts {w = w} {t} {u} sn pw x y) e at a o p h l = pick-case (opens s w at) (parse s F t e at) (parse s F u e at) h (λ z. closes x e at a o p z l) (λ z. closes y e at a o p z l)
   closes (f-after {f = f} {r} {t} {u} gr fr x y) e at a o p h l =
@@ -80,7 +80,7 @@ module _ (C : ℕ → Rule) (Q : Test) (s : List ℕ) (F : ℕ) where
   closes (f-many {m} {k} {k′} {t} ad x) e at a o p h l =
       last-is k k′ (sym (got-goes (repeat (parse s F t e) F at) (goes-repeat (parse s F t e) F at) h)) refl
       (last-loop m k (parse s F t e) (λ q v z w r. closes x e q true v z w r) (λ q v z w r. closes x e q false v z w r) F at h l)
-  closes (f-wrap {l = lb} {t = t} st x) e at a o p h l = let w = wrap-read s F lb t e at h in closes x e at a (w .0) p (w .1) l
+  closes (f-wrap {l = lb} {t = t} st ft x) e at a o p h l = let w = wrap-read s F lb t e at h in closes x e at a (w .0) p (w .1) l
   closes (f-said {i} {m} {g} {k} {f} {r} {t} {u} cl x y z) e at a o p h l = by (said-read s F f r t u e at h) (λ b v q w. closes x e at b v q w l) (λ q v w n. closes y e q a v p w n) (λ q v w n. closes z e q a v p w n)
     where
       by : SaidOut f (parse s F r e at) (parse s F t e) (parse s F u e) a o p → ((b : Bool) (v : Forest) (q : ℕ) → parse s F r e at ≡ got b v q → Last (pick b m k) q)
@@ -142,7 +142,7 @@ module _ (C : ℕ → Rule) (Q : Test) (s : List ℕ) (F : ℕ) where
         by true k = byte-none (subst (Spot d c₀) (sym (got-same k .1)) ω)
         by false k = trouble-got k
 
-    pub none : {i g k : Mode} {t : Rule} → Flow C Q i t g k → clear t ≡ true → (e at : ℕ) (a : Bool) (o : Forest) (p : ℕ) → parse s F t e at ≡ got a o p → Spot d c₀ o → ⊥
+    pub none : {i g k : Mode} {t : Rule} → Flow C Q R i t g k → clear t ≡ true → (e at : ℕ) (a : Bool) (o : Forest) (p : ℕ) → parse s F t e at ≡ got a o p → Spot d c₀ o → ⊥
     unfolding parse clear
     none (f-weak wi wg wk x) c e at a o p h ω = none x c e at a o p h ω
     none f-done c e at a o p h ω = no-spot-nil (subst (Spot d c₀) (sym (got-same h .1)) ω)
@@ -162,7 +162,7 @@ module _ (C : ℕ → Rule) (Q : Test) (s : List ℕ) (F : ℕ) where
         by (two o₁ p₁ o₂ x y w) ht hu = none-join o o₁ o₂ w (ht true o₁ p₁ x) (hu p₁ o₂ y) ω
         by (one x ae) ht hu = ht false o p x ω
     none (f-many {t = t} ad x) c e at a o p h ω = none-loop (parse s F t e) (λ q b v z w n. none x c e q b v z w n) F at h ω
-    none (f-wrap {l = lb} {t = t} st x) c e at a o p h ω = let w = wrap-read s F lb t e at h in none-node (lb (w .0)) (w .0) (st .plain (w .0)) (λ n. none x c e at a (w .0) p (w .1) n) (subst (Spot d c₀) (w .2) ω)
+    none (f-wrap {l = lb} {t = t} st ft x) c e at a o p h ω = let w = wrap-read s F lb t e at h in none-node (lb (w .0)) (w .0) (st .plain (w .0)) (λ n. none x c e at a (w .0) p (w .1) n) (subst (Spot d c₀) (w .2) ω)
     none (f-said {f = f} {r} {t} {u} cl x y z) c e at a o p h ω =
         let b = both (clear r) (pick (clear t) (clear u) false) c in
         let b′ = both (clear t) (clear u) (b .1) in
@@ -186,7 +186,7 @@ module _ (C : ℕ → Rule) (Q : Test) (s : List ℕ) (F : ℕ) where
 
     -- And all that was looked at before it, by a mode at a place, lies below it.
     abbrev pub There : Mode → (at q : ℕ) → Type 0
-    There i at q = Bound C Q s F i at q × Content q × (at < q)
+    There i at q = Bound C Q R s F i at q × Content q × (at < q)
 
     there-at : (i : Mode) (at : ℕ) {q q′ : ℕ} → q ≡ q′ → There i at q → There i at q′
     there-at i at e x = subst (There i at) e x
@@ -197,7 +197,7 @@ module _ (C : ℕ → Rule) (Q : Test) (s : List ℕ) (F : ℕ) where
     all-is : (i : Mode) (at : ℕ) {o o′ : Forest} → o ≡ o′ → All i at o′ → All i at o
     all-is i at e x = subst (All i at) (sym e) x
 
-    all-join : (i m : Mode) (at p₁ : ℕ) (u v : Forest) → p₁ ≡ at + width u → All i at u → All m p₁ v → ((hi : ℕ) → Bound C Q s F m p₁ hi → Bound C Q s F i at hi) → All i at (u ⋈ v)
+    all-join : (i m : Mode) (at p₁ : ℕ) (u v : Forest) → p₁ ≡ at + width u → All i at u → All m p₁ v → ((hi : ℕ) → Bound C Q R s F m p₁ hi → Bound C Q R s F i at hi) → All i at (u ⋈ v)
     all-join i m at p₁ u v w hu hv r ω = by (side u v ω)
       where
         by : Side u v ω → There i at (at + start ω)
@@ -205,7 +205,7 @@ module _ (C : ℕ → Rule) (Q : Test) (s : List ℕ) (F : ℕ) where
         by (right ω₂ f st) = let x = hv ω₂ in let l = x .2 in there-at i at (omega arith) (r (p₁ + start ω₂) (x .0), x .1, omega arith)
 
     pub all-loop : (m : Mode) (body : ℕ → Answer) → ((at : ℕ) (b : Bool) (o : Forest) (q : ℕ) → body at ≡ got b o q → q ≡ at + width o) → ((at : ℕ) (b : Bool) (o : Forest) (q : ℕ) → body at ≡ got b o q → Last m at → All m at o)
-        → ((at : ℕ) (o : Forest) (q : ℕ) → body at ≡ got true o q → Last m at → Last m q) → ((at : ℕ) (o : Forest) (q hi : ℕ) → body at ≡ got true o q → Bound C Q s F m q hi → Bound C Q s F m at hi)
+        → ((at : ℕ) (o : Forest) (q : ℕ) → body at ≡ got true o q → Last m at → Last m q) → ((at : ℕ) (o : Forest) (q hi : ℕ) → body at ≡ got true o q → Bound C Q R s F m q hi → Bound C Q R s F m at hi)
         → (f at : ℕ) {a : Bool} {o : Forest} {p : ℕ} → repeat body f at ≡ got a o p → Last m at → All m at o
     unfolding repeat
     all-loop m body wd hb hl hr zero at h l = trouble-got h
@@ -226,7 +226,7 @@ module _ (C : ℕ → Rule) (Q : Test) (s : List ℕ) (F : ℕ) where
     all-none i at h ω = absurd (h ω)
 
     pair-found : (i m : Mode) (d₁ : ℕ) (t u : Rule) (v : Forest → Forest → Verdict) (e at : ℕ) (a : Bool) (o : Forest) (p : ℕ) → goes (C d₁) ≡ true → PairOut s F d₁ t (C d₁) u v e at a o p
-        → ((b : Bool) (w : Forest) (q : ℕ) → parse s F t e at ≡ got b w q → All i at w) → ((b : Bool) (w : Forest) (q hi : ℕ) → parse s F t e at ≡ got b w q → q ≤ hi → Bound C Q s F i at hi)
+        → ((b : Bool) (w : Forest) (q : ℕ) → parse s F t e at ≡ got b w q → All i at w) → ((b : Bool) (w : Forest) (q hi : ℕ) → parse s F t e at ≡ got b w q → q ≤ hi → Bound C Q R s F i at hi)
         → ((b : Bool) (w : Forest) (q : ℕ) → parse s F t e at ≡ got b w q → Last shut q) → ((q : ℕ) (w : Forest) (n : ℕ) → parse s F (C d₁) e q ≡ got true w n → Last shut q → All shut q w)
         → ((q : ℕ) (b : Bool) (w : Forest) → parse s F u e q ≡ got b w p → Spot d c₀ w → ⊥) → ((w : Forest) (q : ℕ) → parse s F t e at ≡ got true w q → at < q) → All i at o
     unfolding start
@@ -260,9 +260,9 @@ module _ (C : ℕ → Rule) (Q : Test) (s : List ℕ) (F : ℕ) where
             let l : at < p₁ = av o₁ p₁ x in
             there-at i at (omega (arith, w₁)) (rt true o₁ p₁ (p₁ + start ω₂) x (X .0), X .1, omega arith)
 
-    pub found : {i g k : Mode} {t : Rule} → Flow C Q i t g k → (e at : ℕ) (a : Bool) (o : Forest) (p : ℕ) → parse s F t e at ≡ got a o p → Last i at → All i at o
+    pub found : {i g k : Mode} {t : Rule} → Flow C Q R i t g k → (e at : ℕ) (a : Bool) (o : Forest) (p : ℕ) → parse s F t e at ≡ got a o p → Last i at → All i at o
     unfolding parse
-    found (f-weak wi wg wk x) e at a o p h l = λ ω. let y = found x e at a o p h (last-weak at wi l) ω in (bound-weak C Q s F at (at + start ω) wi (y .0), y .1, y .2)
+    found (f-weak wi wg wk x) e at a o p h l = λ ω. let y = found x e at a o p h (last-weak at wi l) ω in (bound-weak C Q R s F at (at + start ω) wi (y .0), y .1, y .2)
     found (f-done {i}) e at a o p h l = all-is i at (sym (got-same h .1)) (all-none i at no-spot-nil)
     found (f-stop {i}) e at a o p h l = all-is i at (sym (got-same h .1)) (all-none i at no-spot-nil)
     found f-step e at a o p h l = all-none near at (none-step e at h)
@@ -276,30 +276,30 @@ module _ (C : ℕ → Rule) (Q : Test) (s : List ℕ) (F : ℕ) where
     found (f-seq {i} {m} {g} {k} {t} {u} x y) e at a o p h l = by (seq-read s F t u e at h) (λ b v q z. found x e at b v q z l) (λ q v z w. found y e q a v p z w)
       where
         by : SeqOut (parse s F t e at) (parse s F u e) a o p → ((b : Bool) (v : Forest) (q : ℕ) → parse s F t e at ≡ got b v q → All i at v) → ((q : ℕ) (v : Forest) → parse s F u e q ≡ got a v p → Last m q → All m q v) → All i at o
-        by (two o₁ p₁ o₂ z y w) ht hu = all-is i at w (all-join i m at p₁ o₁ o₂ (wide-got s F t e at z) (ht true o₁ p₁ z) (hu p₁ o₂ y (closes x e at true o₁ p₁ z l)) (λ hi b. reach C Q s F x e at true o₁ p₁ z hi b .1))
+        by (two o₁ p₁ o₂ z y w) ht hu = all-is i at w (all-join i m at p₁ o₁ o₂ (wide-got s F t e at z) (ht true o₁ p₁ z) (hu p₁ o₂ y (closes x e at true o₁ p₁ z l)) (λ hi b. reach C Q R s F x e at true o₁ p₁ z hi b .1))
         by (one z ae) ht hu = ht false o p z
     found (f-many {m} {k} {k′} {t} ad x) e at a o p h l =
-        all-loop m (parse s F t e) (λ q b v z w. wide-got s F t e q w) (λ q b v z w n. found x e q b v z w n) (λ q v z w n. closes x e q true v z w n) (λ q v z hi w b. reach C Q s F x e q true v z w hi b .1) F at h l
-    found (f-wrap {i} {l = lb} {t = t} st x) e at a o p h l = let w = wrap-read s F lb t e at h in all-is i at (w .2) (all-node i at (lb (w .0)) (w .0) (st .plain (w .0)) (found x e at a (w .0) p (w .1) l))
+        all-loop m (parse s F t e) (λ q b v z w. wide-got s F t e q w) (λ q b v z w n. found x e q b v z w n) (λ q v z w n. closes x e q true v z w n) (λ q v z hi w b. reach C Q R s F x e q true v z w hi b .1) F at h l
+    found (f-wrap {i} {l = lb} {t = t} st ft x) e at a o p h l = let w = wrap-read s F lb t e at h in all-is i at (w .2) (all-node i at (lb (w .0)) (w .0) (st .plain (w .0)) (found x e at a (w .0) p (w .1) l))
     found (f-said {i} {m} {g} {k} {f} {r} {t} {u} cl x y z) e at a o p h l = by (said-read s F f r t u e at h) (λ q v w n. found y e q a v p w n) (λ q v w n. found z e q a v p w n)
       where
         front : (b : Bool) (v : Forest) (q : ℕ) → parse s F r e at ≡ got b v q → All i at v
         front b v q w = all-none i at (none x cl e at b v q w)
 
         by : SaidOut f (parse s F r e at) (parse s F t e) (parse s F u e) a o p → ((q : ℕ) (v : Forest) → parse s F t e q ≡ got a v p → Last m q → All m q v) → ((q : ℕ) (v : Forest) → parse s F u e q ≡ got a v p → Last m q → All m q v) → All i at o
-        by (so o₁ p₁ o₂ w c y n) ht hu = all-is i at n (all-join i m at p₁ o₁ o₂ (wide-got s F r e at w) (front true o₁ p₁ w) (ht p₁ o₂ y (closes x e at true o₁ p₁ w l)) (λ hi b. reach C Q s F x e at true o₁ p₁ w hi b .1))
-        by (otherwise o₁ p₁ o₂ w c y n) ht hu = all-is i at n (all-join i m at p₁ o₁ o₂ (wide-got s F r e at w) (front true o₁ p₁ w) (hu p₁ o₂ y (closes x e at true o₁ p₁ w l)) (λ hi b. reach C Q s F x e at true o₁ p₁ w hi b .1))
+        by (so o₁ p₁ o₂ w c y n) ht hu = all-is i at n (all-join i m at p₁ o₁ o₂ (wide-got s F r e at w) (front true o₁ p₁ w) (ht p₁ o₂ y (closes x e at true o₁ p₁ w l)) (λ hi b. reach C Q R s F x e at true o₁ p₁ w hi b .1))
+        by (otherwise o₁ p₁ o₂ w c y n) ht hu = all-is i at n (all-join i m at p₁ o₁ o₂ (wide-got s F r e at w) (front true o₁ p₁ w) (hu p₁ o₂ y (closes x e at true o₁ p₁ w l)) (λ hi b. reach C Q R s F x e at true o₁ p₁ w hi b .1))
         by (stopped w ae) ht hu = front false o p w
     found (f-marked x) e at a o p h l = found x at at a o p h l
     found (f-paired {i} {m} {k} {k′} {d = d₁} {t} {u} {v} fv av x gc y cl z) e at a o p h l =
-        pair-found i m d₁ t u v e at a o p gc (pair-out s F d₁ t (C d₁) u v e at h) (λ b w q r. found x e at b w q r l) (λ b w q hi r n. reach C Q s F x e at b w q r hi (unbound b q hi n) .1)
+        pair-found i m d₁ t u v e at a o p gc (pair-out s F d₁ t (C d₁) u v e at h) (λ b w q r. found x e at b w q r l) (λ b w q hi r n. reach C Q R s F x e at b w q r hi (unbound b q hi n) .1)
         (λ b w q r. unshut b (closes x e at b w q r l)) (λ q w n r c. found y e q true w n r c) (λ q b w r. none z cl e q b w p r) (λ w q r. advance s F t av e at w q r)
       where
         unshut : (b : Bool) {q : ℕ} → Last (pick b shut shut) q → Last shut q
         unshut true w = w
         unshut false w = w
 
-        unbound : (b : Bool) (q hi : ℕ) → q ≤ hi → Bound C Q s F (pick b shut shut) q hi
+        unbound : (b : Bool) (q hi : ℕ) → q ≤ hi → Bound C Q R s F (pick b shut shut) q hi
         unbound true q hi n = n
         unbound false q hi n = n
     found (f-pass {k} {t} {r} gt cl x) e at a o p h l = all-none (pend (seq t r)) at (none x cl e at a o p h)

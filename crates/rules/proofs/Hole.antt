@@ -56,7 +56,7 @@ unfolding parse
 many-is s F t e at = refl
 
 -- p: where the content c₀ begins in s. B: where the content c₁, which stands there in s′, ends. K, K′: what a place behind the content is moved by.
-module _ (C : ℕ → Rule) (Q : Test) (s s′ : List ℕ) (d : ℕ) (c₀ c₁ : Forest) (p B K K′ : ℕ)
+module _ (C : ℕ → Rule) (Q : Test) (R : Label → Forest → Type 0) (s s′ : List ℕ) (d : ℕ) (c₀ c₁ : Forest) (p B K K′ : ℕ)
     (pl : p + width c₀ ≤ length s) (pl′ : p ≤ length s′)
     (ante : (n : ℕ) → n < p → byteAt s n ≡ byteAt s′ n)
     (post : (n n′ : ℕ) → n + K′ ≡ n′ + K → p + width c₀ ≤ n → byteAt s n ≡ byteAt s′ n′)
@@ -94,15 +94,15 @@ module _ (C : ℕ → Rule) (Q : Test) (s s′ : List ℕ) (d : ℕ) (c₀ c₁ 
   every-is at a q x h k = subst (λ (o : Forest). Every at a o q x) (sym h) k
 
   -- What a flow says of a content: looked at before it, and no further.
-  there : {i g k : Mode} {t : Rule} → Flow C Q i t g k → (e at : ℕ) (a : Bool) (o : Forest) (q : ℕ) → old t e at ≡ got a o q → Last C Q s (suc (length s)) i at → (ω : Spot d c₀ o) → at + start ω ≡ p → Bound C Q s (suc (length s)) i at p × (at < p)
+  there : {i g k : Mode} {t : Rule} → Flow C Q R i t g k → (e at : ℕ) (a : Bool) (o : Forest) (q : ℕ) → old t e at ≡ got a o q → Last C Q R s (suc (length s)) i at → (ω : Spot d c₀ o) → at + start ω ≡ p → Bound C Q R s (suc (length s)) i at p × (at < p)
   there {i = i} fl e at a o q h l ω sp =
-      let x = found C Q s (suc (length s)) d c₀ fl e at a o q h l ω in
+      let x = found C Q R s (suc (length s)) d c₀ fl e at a o q h l ω in
       let y = x .2 in
-      (subst (λ (n : ℕ). Bound C Q s (suc (length s)) i at n) sp (x .0), omega arith)
+      (subst (λ (n : ℕ). Bound C Q R s (suc (length s)) i at n) sp (x .0), omega arith)
 
   -- A rule before the content, bound by what follows it.
-  same-before : {i g k : Mode} {t : Rule} → Flow C Q i t g k → (e e′ at : ℕ) (a : Bool) (o : Forest) (q : ℕ) → old t e at ≡ got a o q → at ≤ p → Bound C Q s (suc (length s)) (pick a g k) q p → new t e′ at ≡ got a o q
-  same-before {g = g} {k = k} {t = t} fl e e′ at a o q h l b = early t e e′ at h (reach C Q s (suc (length s)) fl e at a o q h p b .0) (bound-above C Q s (suc (length s)) (pick a g k) q p b) l
+  same-before : {i g k : Mode} {t : Rule} → Flow C Q R i t g k → (e e′ at : ℕ) (a : Bool) (o : Forest) (q : ℕ) → old t e at ≡ got a o q → at ≤ p → Bound C Q R s (suc (length s)) (pick a g k) q p → new t e′ at ≡ got a o q
+  same-before {g = g} {k = k} {t = t} fl e e′ at a o q h l b = early t e e′ at h (reach C Q R s (suc (length s)) fl e at a o q h p b .0) (bound-above C Q R s (suc (length s)) (pick a g k) q p b) l
 
   -- One reading, then another.
   seq-refill : (t u : Rule) (e e′ at : ℕ) (a : Bool) (o : Forest) (q : ℕ) → at ≤ length s → SeqOut (old t e at) (old u e) a o q
@@ -128,18 +128,18 @@ module _ (C : ℕ → Rule) (Q : Test) (s s′ : List ℕ) (d : ℕ) (c₀ c₁ 
 
   -- A loop.
   loop-refill : (m : Mode) (t : Rule) (e e′ : ℕ)
-      → ((at : ℕ) (b : Bool) (v : Forest) (z : ℕ) → at ≤ length s → old t e at ≡ got b v z → Last C Q s (suc (length s)) m at → Every at b v z (new t e′ at))
-      → ((at : ℕ) (v : Forest) (z : ℕ) → old t e at ≡ got true v z → at ≤ p → Bound C Q s (suc (length s)) m z p → new t e′ at ≡ got true v z)
-      → ((at : ℕ) (v : Forest) (z : ℕ) → old t e at ≡ got true v z → Last C Q s (suc (length s)) m at → (ω : Spot d c₀ v) → at + start ω ≡ p → at < p)
-      → ((f at : ℕ) (v : Forest) (z : ℕ) → repeat (old t e) f at ≡ got true v z → Last C Q s (suc (length s)) m at → (ω : Spot d c₀ v) → at + start ω ≡ p → Bound C Q s (suc (length s)) m at p)
-      → ((at : ℕ) (v : Forest) (z : ℕ) → old t e at ≡ got true v z → Last C Q s (suc (length s)) m at → Last C Q s (suc (length s)) m z)
-      → (f f′ at : ℕ) {a : Bool} {o : Forest} {q : ℕ} → at ≤ length s → Last C Q s (suc (length s)) m at → repeat (old t e) f at ≡ got a o q → q + K′ < at + f′ + K → Every at true o q (repeat (new t e′) f′ at)
+      → ((at : ℕ) (b : Bool) (v : Forest) (z : ℕ) → at ≤ length s → old t e at ≡ got b v z → Last C Q R s (suc (length s)) m at → Every at b v z (new t e′ at))
+      → ((at : ℕ) (v : Forest) (z : ℕ) → old t e at ≡ got true v z → at ≤ p → Bound C Q R s (suc (length s)) m z p → new t e′ at ≡ got true v z)
+      → ((at : ℕ) (v : Forest) (z : ℕ) → old t e at ≡ got true v z → Last C Q R s (suc (length s)) m at → (ω : Spot d c₀ v) → at + start ω ≡ p → at < p)
+      → ((f at : ℕ) (v : Forest) (z : ℕ) → repeat (old t e) f at ≡ got true v z → Last C Q R s (suc (length s)) m at → (ω : Spot d c₀ v) → at + start ω ≡ p → Bound C Q R s (suc (length s)) m at p)
+      → ((at : ℕ) (v : Forest) (z : ℕ) → old t e at ≡ got true v z → Last C Q R s (suc (length s)) m at → Last C Q R s (suc (length s)) m z)
+      → (f f′ at : ℕ) {a : Bool} {o : Forest} {q : ℕ} → at ≤ length s → Last C Q R s (suc (length s)) m at → repeat (old t e) f at ≡ got a o q → q + K′ < at + f′ + K → Every at true o q (repeat (new t e′) f′ at)
   unfolding repeat
   loop-refill m t e e′ hb eb pb ps hl zero f′ at le la h l = trouble-got h
   loop-refill m t e e′ hb eb pb ps hl (suc f) f′ at {a} {o} {q} le la h l = go f′ l (turn (old t e) f at h .1) (λ f″ p₁ v l₁ la₁ r k. loop-refill m t e e′ hb eb pb ps hl f f″ p₁ l₁ la₁ r k)
     where
       IH : Type 0
-      IH = (f″ p₁ : ℕ) (v : Forest) → p₁ ≤ length s → Last C Q s (suc (length s)) m p₁ → repeat (old t e) f p₁ ≡ got true v q → q + K′ < p₁ + f″ + K → Every p₁ true v q (repeat (new t e′) f″ p₁)
+      IH = (f″ p₁ : ℕ) (v : Forest) → p₁ ≤ length s → Last C Q R s (suc (length s)) m p₁ → repeat (old t e) f p₁ ≡ got true v q → q + K′ < p₁ + f″ + K → Every p₁ true v q (repeat (new t e′) f″ p₁)
 
       tops : (n : ℕ) → n ≤ length s → Top (length s) (old t e n)
       tops n k = top s (suc (length s)) t e n k
@@ -281,19 +281,19 @@ module _ (C : ℕ → Rule) (Q : Test) (s s′ : List ℕ) (d : ℕ) (c₀ c₁ 
           (X .0, X .1 ∙ (λ j. got (sym ae j) (sym (f c₁) j) (X .0)), X .2)
 
   -- The law of replacing, for every grammar.
-  pub refill : {i g k : Mode} {t : Rule} → Flow C Q i t g k → (e e′ at : ℕ) (a : Bool) (o : Forest) (q : ℕ) → at ≤ length s → Last C Q s (suc (length s)) i at → old t e at ≡ got a o q → Every at a o q (new t e′ at)
+  pub refill : {i g k : Mode} {t : Rule} → Flow C Q R i t g k → (e e′ at : ℕ) (a : Bool) (o : Forest) (q : ℕ) → at ≤ length s → Last C Q R s (suc (length s)) i at → old t e at ≡ got a o q → Every at a o q (new t e′ at)
   unfolding parse
-  refill (f-weak wi wg wk x) e e′ at a o q le l h = refill x e e′ at a o q le (last-weak C Q s (suc (length s)) at wi l) h
+  refill (f-weak wi wg wk x) e e′ at a o q le l h = refill x e e′ at a o q le (last-weak C Q R s (suc (length s)) at wi l) h
   refill f-done e e′ at a o q le l h = λ ω sp. absurd (no-spot-nil (subst (Spot d c₀) (sym (got-same h .1)) ω))
   refill f-stop e e′ at a o q le l h = λ ω sp. absurd (no-spot-nil (subst (Spot d c₀) (sym (got-same h .1)) ω))
-  refill f-step e e′ at a o q le l h = λ ω sp. absurd (none-step C Q s (suc (length s)) d c₀ e at h ω)
+  refill f-step e e′ at a o q le l h = λ ω sp. absurd (none-step C Q R s (suc (length s)) d c₀ e at h ω)
   refill (f-refuse {n = n} {w = w} x) e e′ at a o q le l h = refusal-got n w e at h
   refill (f-when {f = f} {t} {u} sn x y) e e′ at a o q le l h = λ ω sp.
       let B = there (f-when {f = f} sn x y) e at a o q h l ω sp in
       fork-refill (f (byteAt s at)) (f (byteAt s′ at)) t u e e′ at a o q ω (ap f (ante at (B .1))) h (λ z. refill x e e′ at a o q le l z ω sp) (λ z. refill y e e′ at a o q le l z ω sp)
   refill (f-expect {f = f} {u} n x) e e′ at a o q le l h = λ ω sp.
       let B = there (f-expect {f = f} n x) e at a o q h l ω sp in
-      fork-refill (f (byteAt s at)) (f (byteAt s′ at)) step u e e′ at a o q ω (ap f (ante at (B .1))) h (λ z. absurd (none-step C Q s (suc (length s)) d c₀ e at z ω)) (λ z. refill x e e′ at a o q le l z ω sp)
+      fork-refill (f (byteAt s at)) (f (byteAt s′ at)) step u e e′ at a o q ω (ap f (ante at (B .1))) h (λ z. absurd (none-step C Q R s (suc (length s)) d c₀ e at z ω)) (λ z. refill x e e′ at a o q le l z ω sp)
   refill (f-starts {w = w} {t} {u} sn pw x y) e e′ at a o q le l h = λ ω sp.
       let B = there (f-starts {w = w} sn pw x y) e at a o q h l ω sp in
       fork-refill (opens s w at) (opens s′ w at) t u e e′ at a o q ω (before s s′ p ante (omega arith) pl′ Q closed at at at refl (le-refl _) (B .1) .2 w (lacking-lacks Q w pw)) h (λ z. refill x e e′ at a o q le l z ω sp) (λ z. refill y e e′ at a o q le l z ω sp)
@@ -310,7 +310,7 @@ module _ (C : ℕ → Rule) (Q : Test) (s s′ : List ℕ) (d : ℕ) (c₀ c₁ 
   refill (f-seq {m = m} {t = t} {u} x y) e e′ at a o q le l h =
       seq-refill t u e e′ at a o q le (seq-read s (suc (length s)) t u e at h) (λ b v z w ω sp. refill x e e′ at b v z le l w ω sp)
       (λ o₁ p₁ o₂ z w ω sp.
-      let l₁ = closes C Q s (suc (length s)) x e at true o₁ p₁ z l in
+      let l₁ = closes C Q R s (suc (length s)) x e at true o₁ p₁ z l in
       let B = there y e p₁ a o₂ q w l₁ ω sp in
       let ul = up-got s (suc (length s)) t e at z in
       let lt : p₁ < p = B .1 in
@@ -320,24 +320,24 @@ module _ (C : ℕ → Rule) (Q : Test) (s s′ : List ℕ) (d : ℕ) (c₀ c₁ 
       let X = loop-refill m t e e′ (λ n b v z i w j. refill x e e′ n b v z i j w)
       (λ n v z w ln b. same-before x e e′ n true v z w ln b)
       (λ n v z w j ω sp. there x e n true v z w j ω sp .1)
-      (λ f n v z w j ω sp. subst (λ (y : ℕ). Bound C Q s (suc (length s)) m n y) sp (all-loop C Q s (suc (length s)) d c₀ m (old t e) (λ i b o r c. wide-got s (suc (length s)) t e i c) (λ i b o r c n. found C Q s (suc (length s)) d c₀ x e i b o r c n) (λ i o r c n. closes C Q s (suc (length s)) x e i true o r c n) (λ i o r hi c b. reach C Q s (suc (length s)) x e i true o r c hi b .1) f n w j ω .0))
-      (λ n v z w j. closes C Q s (suc (length s)) x e n true v z w j)
+      (λ f n v z w j ω sp. subst (λ (y : ℕ). Bound C Q R s (suc (length s)) m n y) sp (all-loop C Q R s (suc (length s)) d c₀ m (old t e) (λ i b o r c. wide-got s (suc (length s)) t e i c) (λ i b o r c n. found C Q R s (suc (length s)) d c₀ x e i b o r c n) (λ i o r c n. closes C Q R s (suc (length s)) x e i true o r c n) (λ i o r hi c b. reach C Q R s (suc (length s)) x e i true o r c hi b .1) f n w j ω .0))
+      (λ n v z w j. closes C Q R s (suc (length s)) x e n true v z w j)
       (suc (length s)) (suc (length s′)) at le l h (omega arith) ω sp in
       let ae : a ≡ true = got-goes (repeat (old t e) (suc (length s)) at) (goes-repeat (old t e) (suc (length s)) at) h in
       (X .0, X .1 ∙ ap (λ (b : Bool). got b (fill ω c₁) (X .0)) (sym ae), X .2)
-  refill (f-wrap {l = lb} {t = t} st x) e e′ at a o q le l h =
+  refill (f-wrap {l = lb} {t = t} st ft x) e e′ at a o q le l h =
       let w = wrap-read s (suc (length s)) lb t e at h in
       every-is at a q (new (wrap lb t) e′ at) (w .2) (wrap-refill lb t e e′ at a (w .0) q st (λ ω sp. refill x e e′ at a (w .0) q le l (w .1) ω sp))
   refill (f-said {f = f} {r} {t} {u} cl x y z) e e′ at a o q le l h =
-      said-refill f r t u e e′ at a o q (said-read s (suc (length s)) f r t u e at h) (λ b v i w n. none C Q s (suc (length s)) d c₀ x cl e at b v i w n)
+      said-refill f r t u e e′ at a o q (said-read s (suc (length s)) f r t u e at h) (λ b v i w n. none C Q R s (suc (length s)) d c₀ x cl e at b v i w n)
       (λ o₁ p₁ o₂ i w ω sp.
-      let l₁ = closes C Q s (suc (length s)) x e at true o₁ p₁ i l in
+      let l₁ = closes C Q R s (suc (length s)) x e at true o₁ p₁ i l in
       let B = there y e p₁ a o₂ q w l₁ ω sp in
       let ul = up-got s (suc (length s)) r e at i in
       let lt : p₁ < p = B .1 in
       (same-before x e e′ at true o₁ p₁ i (omega arith) (B .0), refill y e e′ p₁ a o₂ q (top-got s (suc (length s)) r e at le i) l₁ w ω sp))
       (λ o₁ p₁ o₂ i w ω sp.
-      let l₁ = closes C Q s (suc (length s)) x e at true o₁ p₁ i l in
+      let l₁ = closes C Q R s (suc (length s)) x e at true o₁ p₁ i l in
       let B = there z e p₁ a o₂ q w l₁ ω sp in
       let ul = up-got s (suc (length s)) r e at i in
       let lt : p₁ < p = B .1 in
@@ -346,7 +346,7 @@ module _ (C : ℕ → Rule) (Q : Test) (s s′ : List ℕ) (d : ℕ) (c₀ c₁ 
   refill (f-paired {d = d₁} {t} {u} {v} fv av x gc y cl z) e e′ at a o q le l h =
       pair-refill d₁ t u v e e′ at a o q fv le (pair-out s (suc (length s)) d₁ t (C d₁) u v e at h) (λ b w i r ω sp. refill x e e′ at b w i le l r ω sp)
       (λ w i r l₁ l₂. same-before x e e′ at true w i r l₁ l₂)
-      (λ o₁ p₁ b w i r c ω sp. refill y e e′ p₁ b w i (top-got s (suc (length s)) t e at le r) (closes C Q s (suc (length s)) x e at true o₁ p₁ r l) c ω sp)
-      (λ n b w r i. none C Q s (suc (length s)) d c₀ z cl e n b w q r i)
-  refill (f-pass gt cl x) e e′ at a o q le l h = λ ω sp. absurd (none C Q s (suc (length s)) d c₀ x cl e at a o q h ω)
-  refill (f-last gr cl x) e e′ at a o q le l h = λ ω sp. absurd (none C Q s (suc (length s)) d c₀ x cl e at a o q h ω)
+      (λ o₁ p₁ b w i r c ω sp. refill y e e′ p₁ b w i (top-got s (suc (length s)) t e at le r) (closes C Q R s (suc (length s)) x e at true o₁ p₁ r l) c ω sp)
+      (λ n b w r i. none C Q R s (suc (length s)) d c₀ z cl e n b w q r i)
+  refill (f-pass gt cl x) e e′ at a o q le l h = λ ω sp. absurd (none C Q R s (suc (length s)) d c₀ x cl e at a o q h ω)
+  refill (f-last gr cl x) e e′ at a o q le l h = λ ω sp. absurd (none C Q R s (suc (length s)) d c₀ x cl e at a o q h ω)

@@ -16,6 +16,7 @@ pub mod Reach
 pub mod Found
 pub mod Hole
 pub mod Stuck
+pub mod Formed
 pub mod Single
 pub mod Rows
 pub mod Moved

@@ -18,7 +18,7 @@ use Rattle.rules.proofs.Local.{Up, up, up-got, up-repeat, LooksLoop, Lo
 use Rattle.rules.proofs.Agree.{Lacks}
 use Rattle.rules.proofs.Flow.{lacking-lacks, Mode, shut, tight, near, pend, _⊑_, same, shut-tight, shut-near, shut-pend, tight-near, tight-pend, near-pend, Seen, seen-near, seen-pend, Flow, f-weak, f-done, f-stop, f-step, f-refuse, f-when, f-expect, f-starts, f-after, f-seq, f-many, f-wrap, f-said, f-marked, f-paired, f-pass, f-last}
 
-module _ (C : ℕ → Rule) (Q : Test) (s : List ℕ) (F : ℕ) where
+module _ (C : ℕ → Rule) (Q : Test) (R : Label → Forest → Type 0) (s : List ℕ) (F : ℕ) where
   -- What was looked at, by its mode at p, lies below hi.
   abbrev pub Bound : Mode → ℕ → ℕ → Type 0
   Bound shut p hi = p ≤ hi
@@ -63,25 +63,25 @@ module _ (C : ℕ → Rule) (Q : Test) (s : List ℕ) (F : ℕ) where
   loop-reach m k hi p L body go la zero at e b = trouble-got e
   loop-reach m k hi p L body go la (suc f) at {a} {o} e b = turn (then-got (body at) _ e) (λ q o′ r. loop-reach m k hi p L body go la f q r b)
     where
-      R : Bool → Forest → ℕ → Type 0
-      R a₁ o₁ p₁ = Either a₁ (Either (ltb at p₁) (LooksLoop (Lacks Q) s hi L body f p₁) (Unit {0})) (Unit {0})
+      Rest : Bool → Forest → ℕ → Type 0
+      Rest a₁ o₁ p₁ = Either a₁ (Either (ltb at p₁) (LooksLoop (Lacks Q) s hi L body f p₁) (Unit {0})) (Unit {0})
 
       more : (o₁ : Forest) (p₁ : ℕ) → body at ≡ got true o₁ p₁ → (c : Bool) → ltb at p₁ ≡ c → pick c (behind o₁ (repeat body f p₁)) (trouble 0 at at 0 0) ≡ got a o p
-          → ((q : ℕ) (o′ : Forest) → repeat body f q ≡ got a o′ p → LooksLoop (Lacks Q) s hi L body f q × Bound m q hi) → (L at × Then (body at) R) × Bound m at hi
+          → ((q : ℕ) (o′ : Forest) → repeat body f q ≡ got a o′ p → LooksLoop (Lacks Q) s hi L body f q × Bound m q hi) → (L at × Then (body at) Rest) × Bound m at hi
       more o₁ p₁ h true l k ih =
           let g = behind-got o₁ (repeat body f p₁) k in
           let x = ih p₁ (g .0) (g .1) in
           let y = go at o₁ p₁ h (x .1) in
-          ((y .0, then-is R h (subst (λ (c : Bool). Either c (LooksLoop (Lacks Q) s hi L body f p₁) (Unit {0})) (sym l) (x .0))), y .1)
+          ((y .0, then-is Rest h (subst (λ (c : Bool). Either c (LooksLoop (Lacks Q) s hi L body f p₁) (Unit {0})) (sym l) (x .0))), y .1)
       more o₁ p₁ h false l k ih = trouble-got k
 
       turn : (a₁ : Bool) × (o₁ : Forest) × (p₁ : ℕ) × (body at ≡ got a₁ o₁ p₁) × (pick a₁ (pick (ltb at p₁) (behind o₁ (repeat body f p₁)) (trouble 0 at at 0 0)) (got true o₁ p₁) ≡ got a o p)
-          → ((q : ℕ) (o′ : Forest) → repeat body f q ≡ got a o′ p → LooksLoop (Lacks Q) s hi L body f q × Bound m q hi) → (L at × Then (body at) R) × Bound m at hi
+          → ((q : ℕ) (o′ : Forest) → repeat body f q ≡ got a o′ p → LooksLoop (Lacks Q) s hi L body f q × Bound m q hi) → (L at × Then (body at) Rest) × Bound m at hi
       turn (true, o₁, p₁, h, k) ih = more o₁ p₁ h (ltb at p₁) refl k ih
       turn (false, o₁, p₁, h, k) ih =
           let q : p₁ ≡ p = got-same k .2 in
           let y = la at o₁ (h ∙ (λ i. got false o₁ (q i))) b in
-          ((y .0, then-is R h tt), y .1)
+          ((y .0, then-is Rest h tt), y .1)
 
   -- One of two, by a test.
   fork : {X : Type 0} (c : Bool) (x y : Answer) (A B : Type 0) {a : Bool} {o : Forest} {p : ℕ} → pick c x y ≡ got a o p → (x ≡ got a o p → A × X) → (y ≡ got a o p → B × X) → Either c A B × X
@@ -154,11 +154,11 @@ module _ (C : ℕ → Rule) (Q : Test) (s : List ℕ) (F : ℕ) where
       go e′ o′ q (two o₁ p₁ o₂ x y w) =
           let hm = any-mark s F t e e′ at h in
           let pe : p₁ ≡ p = got-same (sym x ∙ hm) .2 in
-          let R = b .1 e′ o₂ q (ap (parse s F r e′) (sym pe) ∙ y) in
-          (R .0, (ht e′ hm .0, then-is (λ a o p. Either a (Looks (Lacks Q) s hi F r e′ p) (Unit {0})) hm (R .1)))
+          let rr = b .1 e′ o₂ q (ap (parse s F r e′) (sym pe) ∙ y) in
+          (rr .0, (ht e′ hm .0, then-is (λ a o p. Either a (Looks (Lacks Q) s hi F r e′ p) (Unit {0})) hm (rr .1)))
       go e′ o′ q (one x ae) = false-true ae refl
 
-  pub reach : {i g k : Mode} {t : Rule} → Flow C Q i t g k → (e at : ℕ) (a : Bool) (o : Forest) (p : ℕ) → parse s F t e at ≡ got a o p → (hi : ℕ) → Claim i t e at (pick a g k) p hi
+  pub reach : {i g k : Mode} {t : Rule} → Flow C Q R i t g k → (e at : ℕ) (a : Bool) (o : Forest) (p : ℕ) → parse s F t e at ≡ got a o p → (hi : ℕ) → Claim i t e at (pick a g k) p hi
   unfolding parse Looks
   reach (f-weak {t = t} wi wg wk fl) e at a o p h hi b =
       let x = reach fl e at a o p h hi (weak-pick a p hi wg wk b) in
@@ -186,14 +186,14 @@ module _ (C : ℕ → Rule) (Q : Test) (s : List ℕ) (F : ℕ) where
       let v = then-got (parse s F r e at) _ h in
       let er = going s F r e at gr (v .3) in
       let w = fork (f (byteAt s (v .2))) (parse s F t e at) (parse s F u e at) (Looks (Lacks Q) s hi F t e at) (Looks (Lacks Q) s hi F u e at) (v .4) (λ z. reach x e at a o p z hi b) (λ z. reach y e at a o p z hi b) in
-      let R = w .1 .1 e (v .1) (v .2) er in
-      ((R .1, then-is (λ b w z. (z < hi) × Either (f (byteAt s z)) (Looks (Lacks Q) s hi F t e at) (Looks (Lacks Q) s hi F u e at)) er (R .0, w .0)), w .1)
+      let rr = w .1 .1 e (v .1) (v .2) er in
+      ((rr .1, then-is (λ b w z. (z < hi) × Either (f (byteAt s z)) (Looks (Lacks Q) s hi F t e at) (Looks (Lacks Q) s hi F u e at)) er (rr .0, w .0)), w .1)
   reach (f-seq {i} {m} {g} {k} {t} {u} x y) e at a o p h hi b =
       seq-reach i m g k t u e at a o p hi (seq-read s F t u e at h) b (λ c v q z l. reach x e at c v q z hi l) (λ q v z l. reach y e q a v p z hi l)
   reach (f-many {m} {k} {k′} {t} ad x) e at a o p h hi b =
       loop-reach m k hi p (Looks (Lacks Q) s hi F t e) (parse s F t e) (λ q v z w l. reach x e q true v z w hi l) (λ q v w l. reach x e q false v p w hi l) F at h
       (bound-is k k′ p hi (got-goes (repeat (parse s F t e) F at) (goes-repeat (parse s F t e) F at) h) b)
-  reach (f-wrap {l = l} {t = t} st x) e at a o p h hi b = let w = wrap-read s F l t e at h in reach x e at a (w .0) p (w .1) hi b
+  reach (f-wrap {l = l} {t = t} st ft x) e at a o p h hi b = let w = wrap-read s F l t e at h in reach x e at a (w .0) p (w .1) hi b
   reach (f-said {i} {m} {g} {k} {f} {r} {t} {u} cl x y z) e at a o p h hi b =
       said-reach i m g k f r t u e at a o p hi (said-read s F f r t u e at h) b (λ c v q w l. reach x e at c v q w hi l) (λ q v w l. reach y e q a v p w hi l) (λ q v w l. reach z e q a v p w hi l)
   reach (f-marked x) e at a o p h hi b = reach x at at a o p h hi b

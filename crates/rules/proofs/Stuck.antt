@@ -7,7 +7,7 @@ use native.Mathlib.Omega.{arith}
 use lib.ListN.{length}
 use lib.Dec.{eqb, ltb}
 use borrow.Author.Tests.{lt-ltb}
-use Rattle.rules.specs.Forest.{Forest, group, content, _⋈_}
+use Rattle.rules.specs.Forest.{Label, Forest, group, content, _⋈_}
 use Rattle.rules.specs.Rule.{Place, here, mark, fromMark, thisByte, Test, Verdict, fine, differ, Rule, step}
 use Rattle.rules.specs.Parse.{Answer, got, trouble, pick, andThen, behind, byteAt, opens, refusal, judged, repeat, parse, parseAll}
 use Rattle.rules.proofs.Ends.{top-got}
@@ -69,8 +69,8 @@ not-stuck-judged : (at q : ℕ) (v : Verdict) (x : Answer) → Numbered v → No
 not-stuck-judged at q fine x n h = h
 not-stuck-judged at q (differ n a b c d) x k h = k
 
-module _ (C : ℕ → Rule) (Q : Test) (s : List ℕ) (F : ℕ) (enough : length s < F) where
-  pub not-stuck : {i g k : Mode} {t : Rule} → Flow C Q i t g k → (e at : ℕ) → at ≤ length s → NotStuck (parse s F t e at)
+module _ (C : ℕ → Rule) (Q : Test) (R : Label → Forest → Type 0) (s : List ℕ) (F : ℕ) (enough : length s < F) where
+  pub not-stuck : {i g k : Mode} {t : Rule} → Flow C Q R i t g k → (e at : ℕ) → at ≤ length s → NotStuck (parse s F t e at)
   unfolding parse
   not-stuck (f-weak wi wg wk x) e at i = not-stuck x e at i
   not-stuck f-done e at i = tt
@@ -84,7 +84,7 @@ module _ (C : ℕ → Rule) (Q : Test) (s : List ℕ) (F : ℕ) (enough : length
   not-stuck (f-seq {t = t} {u} x y) e at i = refuses-then NotZero (parse s F t e at) _ (not-stuck x e at i)
       (λ a o p h. refuses-if NotZero a _ _ (refuses-behind NotZero o (parse s F u e p) (not-stuck y e p (top-got s F t e at i h))) tt)
   not-stuck (f-many {t = t} ad x) e at i = refuses-loop NotZero (length s) (parse s F t e) (λ p k. not-stuck x e p k) (λ p o q k h. (advance s F t ad e p o q h, top-got s F t e p k h)) F at i (omega arith)
-  not-stuck (f-wrap {t = t} st x) e at i = refuses-then NotZero (parse s F t e at) _ (not-stuck x e at i) (λ a o p h. tt)
+  not-stuck (f-wrap {t = t} st ft x) e at i = refuses-then NotZero (parse s F t e at) _ (not-stuck x e at i) (λ a o p h. tt)
   not-stuck (f-said {f = f} {r} {t} {u} cl x y z) e at i = refuses-then NotZero (parse s F r e at) _ (not-stuck x e at i)
       (λ a o p h. let k = top-got s F r e at i h in refuses-if NotZero a _ _ (refuses-behind NotZero o (pick (f o) (parse s F t e p) (parse s F u e p)) (refuses-if NotZero (f o) (parse s F t e p) (parse s F u e p) (not-stuck y e p k) (not-stuck z e p k))) tt)
   not-stuck (f-marked x) e at i = not-stuck x at at i
@@ -99,6 +99,6 @@ module _ (C : ℕ → Rule) (Q : Test) (s : List ℕ) (F : ℕ) (enough : length
   not-stuck (f-last gr cl x) e at i = not-stuck x e at i
 
 -- A whole input is read, or refused by a number that is not 0.
-pub never-stuck : (C : ℕ → Rule) (Q : Test) {i g k : Mode} {t : Rule} → Flow C Q i t g k → (s : List ℕ) → NotStuck (parseAll t s)
+pub never-stuck : (C : ℕ → Rule) (Q : Test) (R : Label → Forest → Type 0) {i g k : Mode} {t : Rule} → Flow C Q R i t g k → (s : List ℕ) → NotStuck (parseAll t s)
 unfolding parseAll
-never-stuck C Q x s = not-stuck C Q s (suc (length s)) (omega arith) x 0 0 (omega arith)
+never-stuck C Q R x s = not-stuck C Q R s (suc (length s)) (omega arith) x 0 0 (omega arith)

@@ -1,0 +1,90 @@
+-- A node that its record calls paired has a content inside it, and a closing tag behind that.
+use mathlib.Core.Path.{_≡_, refl, sym, ap, subst, _∙_}
+use mathlib.Core.Bool.{Bool, true, false}
+use mathlib.Core.List.{List}
+use Prim.Native.Nat.{ℕ, _+_, _≤_}
+use native.Mathlib.Omega.{arith}
+use lib.Dec.{eqb}
+use Rattle.rules.specs.Forest.{Label, node, content, Forest, nil, group, _⋈_, direct}
+use Rattle.rules.specs.Rule.{Rule, paired, wrap}
+use Rattle.rules.specs.Parse.{got, pick, parse}
+use Rattle.rules.specs.Record.{count}
+use Rattle.rules.proofs.Run.{goes, on, got-goes, never}
+use Rattle.rules.proofs.Got.{false-true, wrap-read, PairOut, lone, full, pair-out}
+use Rattle.rules.proofs.Flow.{Fitting}
+use Rattle.jsx.specs.Kind as Kind
+use Rattle.jsx.specs.Byte.{need, expect}
+use Rattle.jsx.specs.Blank.{blanks, pass}
+use Rattle.jsx.specs.Name.{has, firstIs, opensReference, isThis, dashed, oneName, objectName}
+use Rattle.jsx.specs.Expression.{Inner}
+use Rattle.jsx.specs.Tag.{openTag, openFragment, closeTag}
+use Rattle.jsx.specs.Closing.{verdict}
+use Rattle.jsx.specs.Element.{children, pairedOrNot}
+
+-- A content stands in it, with a node behind it.
+abbrev pub HasContent : Forest → Type 0
+HasContent o = (before : Forest) × (d : ℕ) × (c : Forest) × (r : Forest) × (o ≡ before ⋈ group (content d) c r) × (1 ≤ count r)
+
+-- A fragment, or an element with extra 1.
+abbrev pub pairedLabel : Label → Bool
+pairedLabel (node k x) = pick (eqb k Kind.fragment) true (pick (eqb k Kind.element) (eqb x 1) false)
+pairedLabel (content d) = false
+
+abbrev pub wellPaired : Label → Forest → Type 0
+wellPaired l o = pairedLabel l ≡ true → HasContent o
+
+-- A label that is never paired.
+pub unpaired : (l : Forest → Label) (t : Rule) → ((o : Forest) → pairedLabel (l o) ≡ false) → Fitting wellPaired l t
+unpaired l t n s F e at a o p h k = false-true (n o) k
+
+pub plain-fits : (k : ℕ) (t : Rule) → pairedLabel (node k 0) ≡ false → Fitting wellPaired (λ o. node k 0) t
+plain-fits k t n = unpaired (λ o. node k 0) t (λ o. n)
+
+pub other-fits : (t : Rule) → Fitting wellPaired (λ o. node Kind.otherPart (dashed (direct o))) t
+other-fits t = unpaired (λ o. node Kind.otherPart (dashed (direct o))) t (λ o. refl)
+
+pub one-fits : (t : Rule) → Fitting wellPaired (λ o. oneName (direct o)) t
+unfolding oneName
+one-fits t = unpaired (λ o. oneName (direct o)) t (λ o. by (has "-" (direct o)) (firstIs opensReference (direct o)) (isThis (direct o)))
+  where
+    by : (a b c : Bool) → pairedLabel (pick a (node Kind.identifier 1) (pick b (node Kind.reference 0) (pick c (node Kind.this 0) (node Kind.identifier 0)))) ≡ false
+    by true b c = refl
+    by false true c = refl
+    by false false true = refl
+    by false false false = refl
+
+pub object-fits : (t : Rule) → Fitting wellPaired (λ o. objectName (direct o)) t
+unfolding objectName
+object-fits t = unpaired (λ o. objectName (direct o)) t (λ o. by (isThis (direct o)) (dashed (direct o)))
+  where
+    by : (a : Bool) (x : ℕ) → pairedLabel (pick a (node Kind.this 0) (node Kind.reference x)) ≡ false
+    by true x = refl
+    by false x = refl
+
+module _ (d : ℕ) (n : Inner) where
+  -- A closing tag is a node.
+  closes-node : (s : List ℕ) (F e at : ℕ) {b : Bool} {r : Forest} {p : ℕ} → parse s F closeTag e at ≡ got b r p → 1 ≤ count r
+  unfolding closeTag count
+  closes-node s F e at h = let w = wrap-read s F (λ o. node Kind.closingTag 0) _ e at h in omega (arith, ap count (w .2))
+
+  open-alone : (s : List ℕ) (F e at : ℕ) {b : Bool} {o : Forest} {p : ℕ} → parse s F (openTag n) e at ≡ got b o p → pairedOrNot o ≡ 0
+  unfolding openTag pairedOrNot
+  open-alone s F e at h = let w = wrap-read s F (λ o. node Kind.openingTag 0) _ e at h in ap pairedOrNot (w .2)
+
+  pub element-fits : Fitting wellPaired (λ o. node Kind.element (pairedOrNot o)) (paired (openTag n) d (children n) closeTag verdict)
+  element-fits s F e at a o p h k = by (pair-out s F d (openTag n) (children n) closeTag verdict e at h)
+    where
+      by : PairOut s F d (openTag n) (children n) closeTag verdict e at a o p → HasContent o
+      by (lone x ae) = false-true (ap (λ (z : ℕ). eqb z 1) (open-alone s F e at x)) k
+      by (full o₁ p₁ b i p₂ b₂ r x y z nm w ae) = (o₁, d, i, r, w, closes-node s F e p₂ z)
+
+  fragment-goes : goes openFragment ≡ true
+  unfolding goes openFragment pass blanks expect need
+  fragment-goes = refl
+
+  pub fragment-fits : Fitting wellPaired (λ o. node Kind.fragment 0) (paired openFragment d (children n) closeTag verdict)
+  fragment-fits s F e at a o p h k = by (pair-out s F d openFragment (children n) closeTag verdict e at h)
+    where
+      by : PairOut s F d openFragment (children n) closeTag verdict e at a o p → HasContent o
+      by (lone x ae) = false-true refl (got-goes (parse s F openFragment e at) (on s F openFragment fragment-goes e at) x)
+      by (full o₁ p₁ b i p₂ b₂ r x y z nm w ae) = (o₁, d, i, r, w, closes-node s F e p₂ z)
