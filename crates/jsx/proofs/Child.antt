@@ -185,6 +185,10 @@ angled d = after pass (is "/") stop (within d .element)
 angled-flow : (d : ℕ) → L (pend pass) (angled d) shut (pend pass)
 angled-flow d = f-after pass-goes pass-near f-stop (within-flow d .element)
 
+-- Where children end: at the end, or at a `<`.
+abbrev pub endOrAngle : ℕ → Bool
+endOrAngle b = pick (end b) true (is "<" b)
+
 -- At a byte, a child is what this rule reads, in any input.
 abbrev pub ReadsAs : ℕ → ℕ → Rule → Type 0
 ReadsAs d b r = (s : List ℕ) (F e at : ℕ) → byteAt s at ≡ b → parse s F (child (within d)) e at ≡ parse s F r e at
@@ -206,7 +210,7 @@ module _ (s : List ℕ) (F e d : ℕ) where
   cbody at = parse s F (child (within d)) e at
 
   pub data Child (at : ℕ) (a : Bool) (o : Forest) (p : ℕ) : Type 0 where
-    ends : a ≡ false → o ≡ nil → p ≡ at → inText (byteAt s at) ≡ false → Child at a o p
+    ends : a ≡ false → o ≡ nil → p ≡ at → inText (byteAt s at) ≡ false → endOrAngle (byteAt s at) ≡ true → Child at a o p
     aText : a ≡ true → inText (byteAt s at) ≡ true → (c : Forest) → o ≡ textNode (byte (byteAt s at) c) nil → repeat (tbody s F e) F (at + 1) ≡ got true c p → Child at a o p
     other : a ≡ true → inText (byteAt s at) ≡ false → OneNode o → (r : Rule) → ReadsAs d (byteAt s at) r → parse s F r e at ≡ got true o p → Looks (Lacks closer) s p F r e at → Last contentOf closer wellPaired s F shut p → Child at a o p
 
@@ -223,7 +227,7 @@ module _ (s : List ℕ) (F e d : ℕ) where
           slash (is "/" (byteAt s (t .2))) (t .4)
         where
           slash : (w : Bool) → pick w (got false nil at) (parse s F (within d .element) e at) ≡ got a o p → Child at a o p
-          slash true k = let g = got-same k in ends (sym (g .0)) (sym (g .1)) (sym (g .2)) (not-text b (code "<") y refl)
+          slash true k = let g = got-same k in ends (sym (g .0)) (sym (g .1)) (sym (g .2)) (not-text b (code "<") y refl) (rw (x, y))
           slash false k =
               let ae = got-goes (parse s F (within d .element) e at) (goes-on s F (within d .element) (within-goes d .element) e at) k in
               let zt = z ∙ ap (λ (c : Bool). got c o p) ae in
@@ -239,7 +243,7 @@ module _ (s : List ℕ) (F e d : ℕ) where
 
       go : (x y z w : Bool) → end b ≡ x → is "<" b ≡ y → is "{" b ≡ z → inText b ≡ w
           → pick x (got false nil at) (pick y (parse s F (angled d) e at) (pick z (parse s F (within d .childBraces) e at) (pick w (parse s F text e at) (trouble 6 at at 0 0)))) ≡ got a o p → Child at a o p
-      go true y z w ex ey ez ew k = let g = got-same k in ends (sym (g .0)) (sym (g .1)) (sym (g .2)) (not-text b 256 ex refl)
+      go true y z w ex ey ez ew k = let g = got-same k in ends (sym (g .0)) (sym (g .1)) (sym (g .2)) (not-text b 256 ex refl) (rw ex)
       go false true z w ex ey ez ew k = on-angle ex ey k
       go false false true w ex ey ez ew k = on-brace ex ey ez k
       go false false false true ex ey ez ew k = let t = text-of s F e at k in aText (t .1) ew (t .0) (t .2) (t .3)
@@ -260,10 +264,19 @@ module _ (s : List ℕ) (F e d : ℕ) where
   stops-at (suc f) at {u} {q} h = go (turn cbody f at h .1) (λ p v r. stops-at f p r)
     where
       one : cbody at ≡ got false u q → Child at false u q → cbody q ≡ got false nil q
-      one k (ends a b c g) = ap cbody c ∙ k ∙ ap (λ (n : Forest). got false n q) b
+      one k (ends a b c g z) = ap cbody c ∙ k ∙ ap (λ (n : Forest). got false n q) b
       one k (aText a b c g i) = false-true refl a
       one k (other a b n r i j l m) = false-true refl a
 
       go : Turn cbody f at u q → ((p : ℕ) (v : Forest) → repeat cbody f p ≡ got true v q → cbody q ≡ got false nil q) → cbody q ≡ got false nil q
       go (last k) ih = one k (child-of at k)
       go (goon o p v k l r w) ih = ih p v r
+
+  -- And the end, or a `<`, stands there.
+  pub stops-before : (at : ℕ) → cbody at ≡ got false nil at → endOrAngle (byteAt s at) ≡ true
+  stops-before at h = by (child-of at h)
+    where
+      by : Child at false nil at → endOrAngle (byteAt s at) ≡ true
+      by (ends a b c g z) = z
+      by (aText a b c g i) = false-true refl a
+      by (other a b n r i j l m) = false-true refl a

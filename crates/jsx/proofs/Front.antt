@@ -128,12 +128,12 @@ module _ (x y : List ℕ) (px : Plain x) (Fx Fz e d : ℕ) (big : length (x ++ y
         G = (k : Label) × (c : Forest) × (u″ : Forest) × (u′ ≡ group k c u″)
 
         stops : Child x Fx e d p₁ false u′ p → G
-        stops (ends a b c g) = let n = byte-end x px p₁ (ap (byteAt x) (sym c) ∙ be) in absurd (omega arith)
+        stops (ends a b c g z₀) = let n = byte-end x px p₁ (ap (byteAt x) (sym c) ∙ be) in absurd (omega arith)
         stops (aText a b c g i) = false-true refl a
         stops (other a b n₁ r₁ i j l m) = false-true refl a
 
         goes : (o : Forest) (p₂ : ℕ) (v′ : Forest) → u′ ≡ o ⋈ v′ → Child x Fx e d p₁ true o p₂ → G
-        goes o p₂ v′ w (ends a b c g) = false-true a refl
+        goes o p₂ v′ w (ends a b c g z₀) = false-true a refl
         goes o p₂ v′ w (aText a b c g i) = false-true nt b
         goes o p₂ v′ w (other a b n₁ r₁ i j l m) = (n₁ .0, n₁ .1, v′, w ∙ ap (λ (n : Forest). n ⋈ v′) (n₁ .2))
 
@@ -184,12 +184,12 @@ module _ (x y : List ℕ) (px : Plain x) (Fx Fz e d : ℕ) (big : length (x ++ y
           G = Goal (suc f″) at (group (node Kind.text 0) (byte (byteAt x at) c) nil)
 
           stops : Child (x ++ y) Fz e d (length x) false v q → G
-          stops (ends a b c′ g) = apart g (rw b refl) f″ l
+          stops (ends a b c′ g z₀) = apart g (rw b refl) f″ l
           stops (aText a b c g i) = false-true refl a
           stops (other a b n₁ r₁ i j l m) = false-true refl a
 
           goes : (o : Forest) (p₂ : ℕ) (v′ : Forest) → length x < p₂ → repeat (cbody (x ++ y) Fz e d) f″ p₂ ≡ got true v′ q → v ≡ o ⋈ v′ → Child (x ++ y) Fz e d (length x) true o p₂ → G
-          goes o p₂ v′ lt r w (ends a b c g) = false-true a refl
+          goes o p₂ v′ lt r w (ends a b c g z₀) = false-true a refl
           goes o p₂ v′ lt r w (aText a b c′ g i) = texts f″ p₂ c′ v′ b i r (w ∙ ap (λ (n : Forest). n ⋈ v′) g) lt
           goes o p₂ v′ lt r w (other a b n₁ r₁ i j l′ m) = apart b
               (subst (λ (n : Forest). meet textLabel (node Kind.text 0) (byte (byteAt x at) c) n ≡ group (node Kind.text 0) (byte (byteAt x at) c) n) (sym (w ∙ ap (λ (n : Forest). n ⋈ v′) (n₁ .2))) (meet-right textLabel (node Kind.text 0) (byte (byteAt x at) c) (n₁ .0) (n₁ .1) v′ (n₁ .3))) f″ l
@@ -207,13 +207,13 @@ module _ (x y : List ℕ) (px : Plain x) (Fx Fz e d : ℕ) (big : length (x ++ y
         IH = (p₁ : ℕ) (u′ : Forest) → p₁ ≤ length x → repeat (cbody x Fx e d) f p₁ ≡ got true u′ p → (f″ : ℕ) → q < p₁ + f″ → Goal f″ p₁ u′
 
         stops : (f′ : ℕ) → q < at + f′ → Child x Fx e d at false u p → Goal f′ at u
-        stops f′ l (ends a b c g) = let n = byte-end x px at (ap (byteAt x) (sym c) ∙ pe) in let ae : length x ≡ at = omega arith in
+        stops f′ l (ends a b c g z₀) = let n = byte-end x px at (ap (byteAt x) (sym c) ∙ pe) in let ae : length x ≡ at = omega arith in
             subst (λ (m : ℕ). Goal f′ m u) ae (again f′ (omega arith) ∙ ap (λ (m : Forest). got true (join textLabel m v) q) (sym b))
         stops f′ l (aText a b c g i) = false-true refl a
         stops f′ l (other a b n₁ r₁ i j l′ m) = false-true refl a
 
         goes : (f″ : ℕ) → q < at + suc f″ → (o : Forest) (p₁ : ℕ) (u′ : Forest) → cbody x Fx e d at ≡ got true o p₁ → at < p₁ → p₁ ≤ length x → repeat (cbody x Fx e d) f p₁ ≡ got true u′ p → u ≡ o ⋈ u′ → IH → Child x Fx e d at true o p₁ → Goal (suc f″) at u
-        goes f″ l o p₁ u′ k lt pl r w ih (ends a b c g) = false-true a refl
+        goes f″ l o p₁ u′ k lt pl r w ih (ends a b c g z₀) = false-true a refl
         goes f″ l o p₁ u′ k lt pl r w ih (other a b n₁ rr ra k₁ j la) =
             let li : at < length x = omega arith in
             onward f″ at (n₁ .0) (n₁ .1) p₁ u′ u (ra (x ++ y) Fz e at (sym (byte-in x y at li)) ∙ xz rr at k₁ j la (omega arith) pl ∙ ap (λ (n : Forest). got true n p₁) (n₁ .2)) lt

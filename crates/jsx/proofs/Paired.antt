@@ -21,9 +21,9 @@ use Rattle.jsx.specs.Tag.{openTag, openFragment, closeTag}
 use Rattle.jsx.specs.Closing.{verdict}
 use Rattle.jsx.specs.Element.{children, pairedOrNot}
 
--- A content stands in it, with a node behind it.
+-- An opening tag, a content and a closing tag.
 abbrev pub HasContent : Forest → Type 0
-HasContent o = (before : Forest) × (d : ℕ) × (c : Forest) × (r : Forest) × (o ≡ before ⋈ group (content d) c r) × (1 ≤ count r)
+HasContent o = (tag : Forest) × (d : ℕ) × (c : Forest) × (close : Forest) × (o ≡ group (node Kind.openingTag 0) tag (group (content d) c (group (node Kind.closingTag 0) close nil)))
 
 -- A fragment, or an element with extra 1.
 abbrev pub pairedLabel : Label → Bool
@@ -62,21 +62,32 @@ object-fits t = unpaired (λ o. objectName (direct o)) t (λ o. by (isThis (dire
     by false x = refl
 
 module _ (d : ℕ) (n : Inner) where
-  -- A closing tag is a node.
-  closes-node : (s : List ℕ) (F e at : ℕ) {b : Bool} {r : Forest} {p : ℕ} → parse s F closeTag e at ≡ got b r p → 1 ≤ count r
-  unfolding closeTag count
-  closes-node s F e at h = let w = wrap-read s F (λ o. node Kind.closingTag 0) _ e at h in omega (arith, ap count (w .2))
+  close-node : (s : List ℕ) (F e at : ℕ) {b : Bool} {r : Forest} {p : ℕ} → parse s F closeTag e at ≡ got b r p → (z : Forest) × (r ≡ group (node Kind.closingTag 0) z nil)
+  unfolding closeTag
+  close-node s F e at h = let w = wrap-read s F (λ o. node Kind.closingTag 0) _ e at h in (w .0, w .2)
 
-  open-alone : (s : List ℕ) (F e at : ℕ) {b : Bool} {o : Forest} {p : ℕ} → parse s F (openTag n) e at ≡ got b o p → pairedOrNot o ≡ 0
-  unfolding openTag pairedOrNot
-  open-alone s F e at h = let w = wrap-read s F (λ o. node Kind.openingTag 0) _ e at h in ap pairedOrNot (w .2)
+  open-node : (s : List ℕ) (F e at : ℕ) {b : Bool} {o : Forest} {p : ℕ} → parse s F (openTag n) e at ≡ got b o p → (t : Forest) × (o ≡ group (node Kind.openingTag 0) t nil)
+  unfolding openTag
+  open-node s F e at h = let w = wrap-read s F (λ o. node Kind.openingTag 0) _ e at h in (w .0, w .2)
+
+  fragment-node : (s : List ℕ) (F e at : ℕ) {b : Bool} {o : Forest} {p : ℕ} → parse s F openFragment e at ≡ got b o p → (t : Forest) × (o ≡ group (node Kind.openingTag 0) t nil)
+  unfolding openFragment
+  fragment-node s F e at h = let w = wrap-read s F (λ o. node Kind.openingTag 0) _ e at h in (w .0, w .2)
+
+  three : (o o₁ c r t z : Forest) → o ≡ o₁ ⋈ group (content d) c r → o₁ ≡ group (node Kind.openingTag 0) t nil → r ≡ group (node Kind.closingTag 0) z nil → HasContent o
+  unfolding _⋈_
+  three o o₁ c r t z w x y = (t, d, c, z, w ∙ (λ i. x i ⋈ group (content d) c (y i)))
+
+  alone : (o t : Forest) → o ≡ group (node Kind.openingTag 0) t nil → pairedOrNot o ≡ 0
+  unfolding pairedOrNot
+  alone o t h = ap pairedOrNot h
 
   pub element-fits : Fitting wellPaired (λ o. node Kind.element (pairedOrNot o)) (paired (openTag n) d (children n) closeTag verdict)
   element-fits s F e at a o p h k = by (pair-out s F d (openTag n) (children n) closeTag verdict e at h)
     where
       by : PairOut s F d (openTag n) (children n) closeTag verdict e at a o p → HasContent o
-      by (lone x ae) = false-true (ap (λ (z : ℕ). eqb z 1) (open-alone s F e at x)) k
-      by (full o₁ p₁ b i p₂ b₂ r x y z nm w ae) = (o₁, d, i, r, w, closes-node s F e p₂ z)
+      by (lone x ae) = let t = open-node s F e at x in false-true (ap (λ (z : ℕ). eqb z 1) (alone o (t .0) (t .1))) k
+      by (full o₁ p₁ b i p₂ b₂ r x y z nm w ae) = let t = open-node s F e at x in let c = close-node s F e p₂ z in three o o₁ i r (t .0) (c .0) w (t .1) (c .1)
 
   fragment-goes : goes openFragment ≡ true
   unfolding goes openFragment pass blanks expect need
@@ -87,4 +98,4 @@ module _ (d : ℕ) (n : Inner) where
     where
       by : PairOut s F d openFragment (children n) closeTag verdict e at a o p → HasContent o
       by (lone x ae) = false-true refl (got-goes (parse s F openFragment e at) (on s F openFragment fragment-goes e at) x)
-      by (full o₁ p₁ b i p₂ b₂ r x y z nm w ae) = (o₁, d, i, r, w, closes-node s F e p₂ z)
+      by (full o₁ p₁ b i p₂ b₂ r x y z nm w ae) = let t = fragment-node s F e at x in let c = close-node s F e p₂ z in three o o₁ i r (t .0) (c .0) w (t .1) (c .1)
