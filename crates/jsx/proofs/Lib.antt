@@ -8,8 +8,14 @@ pub mod Steady
 pub mod Paired
 pub mod Shape
 pub mod Goes
+pub mod Few
+pub mod Ladder
+pub mod Again
 pub mod Child
 pub mod Pieces
+pub mod Cut
 pub mod Front
 pub mod JoinRead
 pub mod ReplaceRead
+pub mod Accepted
+pub mod Deep

@@ -34,7 +34,7 @@ abbrev pub anyNode : Label → Forest → Type 0
 anyNode l o = Unit {0}
 
 -- A turn of the loop.
-abbrev oneTurn : Rule
+abbrev pub oneTurn : Rule
 oneTurn = when end stop (marked sequence)
 
 module _ (C : ℕ → Rule) where
@@ -62,7 +62,7 @@ module _ (C : ℕ → Rule) where
       (f-when seen-near (flow-next f-step (flow-next (flow-second 0x80 0x8F) (flow-next flow-other flow-other)))
       (f-refuse refl))))))))
 
-  flow-turn : Flow C anyByte anyNode near oneTurn tight near
+  pub flow-turn : Flow C anyByte anyNode near oneTurn tight near
   flow-turn = f-when seen-near f-stop (f-marked flow-sequence)
 
   pub flow-utf8 : {k : Mode} → Flow C anyByte anyNode near utf8 near k
@@ -71,14 +71,14 @@ module _ (C : ℕ → Rule) where
 
 -- ---- the rule from a place of an input on, and one turn of its loop
 
-reading : (s : List ℕ) (at : ℕ) → Answer
+pub reading : (s : List ℕ) (at : ℕ) → Answer
 reading s at = parse s (suc (length s)) utf8 0 at
 
-turning : (s : List ℕ) (at : ℕ) → Answer
+unfoldable pub turning : (s : List ℕ) (at : ℕ) → Answer
 turning s at = parse s (suc (length s)) oneTurn 0 at
 
 module _ (s : List ℕ) where
-  reading-loop : (at : ℕ) → reading s at ≡ repeat (turning s) (suc (length s)) at
+  pub reading-loop : (at : ℕ) → reading s at ≡ repeat (turning s) (suc (length s)) at
   unfolding reading turning parse utf8
   reading-loop at = refl
 
@@ -86,11 +86,11 @@ module _ (s : List ℕ) where
   unfolding parseAll reading
   reading-all = refl
 
-  turn-within : (at : ℕ) {a : Bool} {o : Forest} {p : ℕ} → at ≤ length s → turning s at ≡ got a o p → p ≤ length s
+  pub turn-within : (at : ℕ) {a : Bool} {o : Forest} {p : ℕ} → at ≤ length s → turning s at ≡ got a o p → p ≤ length s
   unfolding turning
   turn-within at i h = top-got s (suc (length s)) oneTurn 0 at i h
 
-  turn-up : (at : ℕ) → Up at (turning s at)
+  pub turn-up : (at : ℕ) → Up at (turning s at)
   unfolding turning
   turn-up at = up s (suc (length s)) oneTurn 0 at
 
@@ -104,7 +104,7 @@ module _ (s : List ℕ) where
   sequence-goes at h = got-goes (parse s (suc (length s)) sequence at at) (on s (suc (length s)) sequence refl at at) h
 
   -- So the loop stops only where the input ends.
-  turn-stops : Plain s → (at : ℕ) {o : Forest} {p : ℕ} → at ≤ length s → turning s at ≡ got false o p → (at ≡ length s) × (p ≡ at)
+  pub turn-stops : Plain s → (at : ℕ) {o : Forest} {p : ℕ} → at ≤ length s → turning s at ≡ got false o p → (at ≡ length s) × (p ≡ at)
   unfolding turning parse
   turn-stops pl at {o} {p} i h = go (eqb (byteAt s at) 256) refl h
     where
@@ -146,11 +146,11 @@ what-was-got : (x : Answer) → IsGot x → (a : Bool) × (o : Forest) × (p : �
 what-was-got (got a o p) h = (a, o, p, refl)
 what-was-got (trouble n a b c d) h = absurd h
 
-got-good : (s : List ℕ) {a : Bool} {o : Forest} {p : ℕ} → reading s 0 ≡ got a o p → Good s
+pub got-good : (s : List ℕ) {a : Bool} {o : Forest} {p : ℕ} → reading s 0 ≡ got a o p → Good s
 unfolding Good
 got-good s e = subst IsGot (sym (reading-all s ∙ e)) tt
 
-good-got : (s : List ℕ) → Good s → (a : Bool) × (o : Forest) × (p : ℕ) × (reading s 0 ≡ got a o p)
+pub good-got : (s : List ℕ) → Good s → (a : Bool) × (o : Forest) × (p : ℕ) × (reading s 0 ≡ got a o p)
 unfolding Good
 good-got s h = what-was-got (reading s 0) (subst IsGot (reading-all s) h)
 

@@ -71,8 +71,8 @@ module _ (x y : List ℕ) where
   pub byte-behind : (p : ℕ) → byteAt y p ≡ byteAt (x ++ y) (length x + p)
   byte-behind p = sym (getD-append-add x y p 256)
 
--- bytes are bytes
-pub Plain : List ℕ → Type 0
+-- Bytes are below 256.
+unfoldable pub Plain : List ℕ → Type 0
 Plain x = (p : ℕ) → p < length x → getD x p 256 < 256
 
 pub byte-end : (x : List ℕ) → Plain x → (p : ℕ) → byteAt x p ≡ 256 → length x ≤ p

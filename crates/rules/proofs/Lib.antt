@@ -5,9 +5,11 @@ pub mod Got
 pub mod Mark
 pub mod Local
 pub mod Ends
+pub mod Credit
 pub mod Agree
 pub mod Moves
 pub mod Flat
+pub mod Again
 pub mod Deeper
 pub mod Spots
 pub mod Flow
