@@ -19,3 +19,4 @@ pub mod JoinRead
 pub mod ReplaceRead
 pub mod Accepted
 pub mod Deep
+pub mod Join
