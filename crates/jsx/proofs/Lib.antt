@@ -20,3 +20,4 @@ pub mod ReplaceRead
 pub mod Accepted
 pub mod Deep
 pub mod Join
+pub mod Replace

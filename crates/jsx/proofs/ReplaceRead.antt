@@ -21,9 +21,9 @@ use Rattle.rules.proofs.Hole.{refill}
 use Rattle.rules.proofs.Joined.{join-nil}
 use Rattle.jsx.specs.Element.{child, children}
 use Rattle.jsx.specs.Depth.{within}
-use Rattle.jsx.specs.Reading.{stage, run}
+use Rattle.jsx.specs.Reading.{run}
 use Rattle.jsx.proofs.Paired.{wellPaired}
-use Rattle.jsx.proofs.Shape.{contentOf, closer, L, stage-flow, run-flow}
+use Rattle.jsx.proofs.Shape.{contentOf, closer, L}
 use Rattle.jsx.proofs.Child.{textLabel, cbody, stops-at}
 use Rattle.jsx.proofs.Front.{front}
 use Rattle.jsx.proofs.JoinRead.{Reads, run-of, moved}
@@ -127,14 +127,8 @@ module _ (t : Rule) (g k : Mode) (ut : L near t g k) (s y : List ℕ) (py : Plai
   unfolding s′ z p b
   replace = replaced
 
--- ω is the way to a content c₀ in the reading u of the stage s; the run y is read as v with the depth d that is left there.
-pub replace-in-stage : (n : ℕ) (s y : List ℕ) → Plain y → (u v : Forest) → Reads (stage n) s u → (d : ℕ) (c₀ : Forest) (ω : Spot d c₀ u) → Reads (run d) y v
-    → Reads (stage n) (take (start ω) s ++ (y ++ drop (start ω + width c₀) s)) (fill ω v)
+-- ω is the way to a content c₀ in the reading u of s; the run y is read as v with the depth d that is left there.
+pub replace-reads : (t : Rule) {g k : Mode} → L near t g k → (s y : List ℕ) → Plain y → (u v : Forest) → Reads t s u → (d : ℕ) (c₀ : Forest) (ω : Spot d c₀ u) → Reads (run d) y v
+    → Reads t (take (start ω) s ++ (y ++ drop (start ω + width c₀) s)) (fill ω v)
 unfolding Reads parseAll
-replace-in-stage n s y py u v (q, hs) d c₀ ω hy = replace (stage n) near near (stage-flow n) s y py d c₀ u v q hs ω hy
-
--- The same in a run.
-pub replace-in-run : (n : ℕ) (s y : List ℕ) → Plain y → (u v : Forest) → Reads (run n) s u → (d : ℕ) (c₀ : Forest) (ω : Spot d c₀ u) → Reads (run d) y v
-    → Reads (run n) (take (start ω) s ++ (y ++ drop (start ω + width c₀) s)) (fill ω v)
-unfolding Reads parseAll
-replace-in-run n s y py u v (q, hs) d c₀ ω hy = replace (run n) _ near (run-flow n) s y py d c₀ u v q hs ω hy
+replace-reads t {g} {k} flow s y py u v (q, hs) d c₀ ω hy = replace t g k flow s y py d c₀ u v q hs ω hy
