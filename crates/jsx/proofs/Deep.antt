@@ -13,7 +13,8 @@ use Rattle.rules.specs.Parse.{Answer, got, trouble, pick, andThen, parseAll}
 use Rattle.rules.proofs.Run.{never, goes}
 use Rattle.rules.proofs.Flow.{IsNode, Steady, near}
 use Rattle.rules.proofs.Stuck.{NotStuck, never-stuck}
-use Rattle.rules.proofs.Deeper.{deepenLabel, deepen, width-deepen, count-deepen, direct-deepen, inside-deepen, records-deepen, clear, labels, isNode, fails, Deeper, deeper-clear, deeper-fails, deeper-refuse, deeper-done, deeper-stop, deeper-step, deeper-when, deeper-starts, deeper-look, deeper-seq, deeper-many, deeper-wrap, deeper-paired, Deep, deep, deeper-got}
+use Rattle.rules.proofs.Flow.{clear}
+use Rattle.rules.proofs.Deeper.{deepenLabel, deepen, width-deepen, count-deepen, direct-deepen, inside-deepen, records-deepen, labels, isNode, fails, Deeper, deeper-clear, deeper-fails, deeper-refuse, deeper-done, deeper-stop, deeper-step, deeper-when, deeper-starts, deeper-look, deeper-seq, deeper-many, deeper-wrap, deeper-paired, Deep, deep, deeper-got}
 use Rattle.jsx.specs.Kind as Kind
 use Rattle.jsx.specs.Refusal.{tooLong, unexpected, namesDiffer, fragmentClosedByName, elementClosedByFragment, afterStage, tableTooSmall}
 use Rattle.jsx.specs.Byte.{is, _or_, need, expect}

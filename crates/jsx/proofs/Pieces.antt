@@ -10,7 +10,7 @@ use borrow.Author.Tests.{eqb-true}
 use Rattle.rules.specs.Forest.{Label, Forest, nil, _⋈_}
 use Rattle.rules.specs.Rule.{Test, Rule, done, stop, when, seq, marked}
 use Rattle.rules.specs.Parse.{Answer, got, trouble, pick, behind, byteAt, repeat, parse, parseAll}
-use Rattle.rules.proofs.Run.{never, goes, on, got-goes, behind-nil, loop-more}
+use Rattle.rules.proofs.Run.{never, goes, on, got-goes, behind-none, loop-more}
 use Rattle.rules.proofs.Got.{trouble-got, got-same, behind-got}
 use Rattle.rules.proofs.Local.{Up, up, local-got}
 use Rattle.rules.proofs.Ends.{top-got, sees, Turn, last, goon, turn, refuel}
@@ -201,7 +201,7 @@ module _ (x y : List ℕ) where
   good-behind pl h =
       let g = good-got x h in
       across pl (reading (x ++ y) 0) nil (suc (length x)) (suc (length (x ++ y))) 0 (omega arith) (sym (reading-loop x 0) ∙ g .3)
-      (reading-loop (x ++ y) 0 ∙ sym (behind-nil (repeat (turning (x ++ y)) (suc (length (x ++ y))) 0))) (omega arith)
+      (reading-loop (x ++ y) 0 ∙ sym (behind-none (repeat (turning (x ++ y)) (suc (length (x ++ y))) 0))) (omega arith)
 
   -- What is read of the second piece is read behind the first, and the other way round.
   moved-in : {a : Bool} {o : Forest} {p : ℕ} → reading y 0 ≡ got a o p → (q : ℕ) × (reading (x ++ y) (length x) ≡ got a o q)

@@ -11,7 +11,8 @@ use Rattle.rules.specs.Forest.{Label, node, content, Forest, nil, byte, 
 use Rattle.rules.specs.Rule.{Place, Test, Verdict, Rule, done, stop, step, refuse, when, starts, after, seq, many, wrap, said, marked, paired}
 use Rattle.rules.specs.Parse.{Answer, got, trouble, pick, byteAt, opens, repeat, parse, parseAll}
 use Rattle.rules.specs.Record.{count}
-use Rattle.rules.proofs.Run.{count-join, width-join, wide-got}
+use Rattle.rules.proofs.Forests.{count-behind, width-behind}
+use Rattle.rules.proofs.Run.{wide-got}
 use Rattle.rules.proofs.Got.{trouble-got, refusal-got, got-same, then-got, pick-case, SeqOut, two, one, seq-read, SaidOut, so, otherwise, stopped, said-read, PairOut, lone, full, pair-out, wrap-read}
 use Rattle.rules.proofs.Ends.{Turn, last, goon, turn, top-got}
 
@@ -58,7 +59,7 @@ pays-byte = record { enough = omega arith }
 
 -- What the first leaves, the second has.
 pays-join : {i m g k k′ : ℕ} {a : Bool} {u v o : Forest} → o ≡ u ⋈ v → Pays i m k′ true u → Pays m g k a v → Pays i g k a o
-pays-join {i} {m} {g} {k} {a = a} {u} {v} e x y = subst (Pays i g k a) (sym e) (record { enough = omega (arith, count-join u v, width-join u v) })
+pays-join {i} {m} {g} {k} {a = a} {u} {v} e x y = subst (Pays i g k a) (sym e) (record { enough = omega (arith, count-behind u v, width-behind u v) })
 
 -- A group is a node at most.
 pays-group : {i g k : ℕ} {a : Bool} (l : Label) {u : Forest} → Pays i g k a u → Pays (suc i) g k a (group l u nil)

@@ -11,6 +11,7 @@ use Rattle.rules.specs.Parse.{Answer, got, trouble, pick, andThen, behin
 use Rattle.rules.specs.Record.{row, count, records}
 use Rattle.rules.proofs.Run.{Then, then-if, then-then, then-any, then-behind, then-refusal, both, never, goes, on, Goes, GoesOn}
 use Rattle.rules.proofs.Moves.{one-of}
+use Rattle.rules.proofs.Flow.{clear}
 
 -- ---- a forest with more depth left in its contents
 
@@ -74,22 +75,6 @@ records-deepen k (group (content d) c u) at n par =
     ∙ ap (λ (l : List ℕ). records at n par c ++ l) (records-deepen k u (at + width c) (n + count c) par)
 
 -- ---- rules with no content in them
-
--- no `paired`, but in what is only looked at
-unfoldable pub clear : Rule → Bool
-clear done = true
-clear stop = true
-clear step = true
-clear (refuse n w) = true
-clear (when f t u) = pick (clear t) (clear u) false
-clear (starts w t u) = pick (clear t) (clear u) false
-clear (after r f t u) = pick (clear t) (clear u) false
-clear (seq t u) = pick (clear t) (clear u) false
-clear (many t) = clear t
-clear (wrap f t) = clear t
-clear (said f r t u) = pick (clear r) (pick (clear t) (clear u) false) false
-clear (marked t) = clear t
-clear (paired t d c u v) = false
 
 -- the labels that `wrap` gives in it
 unfoldable pub labels : Rule → List (Forest → Label)

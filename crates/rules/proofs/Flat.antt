@@ -10,7 +10,8 @@ use borrow.Author.Tests.{ltb-true}
 use Rattle.rules.specs.Forest.{Forest, nil, _⋈_}
 use Rattle.rules.specs.Rule.{Test, Rule, stop, after, seq, many}
 use Rattle.rules.specs.Parse.{Answer, got, trouble, pick, andThen, behind, byteAt, repeat, parse}
-use Rattle.rules.proofs.Run.{Then, Either, then-if, then-any, behind-nil, behind-behind, join-nil, never, both, goes, on, Goes, GoesOn, goes-repeat, repeat-same}
+use Rattle.rules.proofs.Forests.{behind-nil}
+use Rattle.rules.proofs.Run.{Then, Either, then-if, then-any, behind-none, behind-behind, never, both, goes, on, Goes, GoesOn, goes-repeat, repeat-same}
 use Rattle.rules.proofs.Local.{Up, up, up-repeat}
 use Rattle.rules.proofs.Ends.{Top, top, turn-more, turn-last, turn-no, turn-stuck}
 use Rattle.rules.proofs.Moves.{moves, passes, Past}
@@ -103,7 +104,7 @@ module _ (l F : ℕ) (lf : l < F) (G H K : ℕ → Answer) (upG : (p : ℕ) → 
 
       go : Split (repeat G F) p (G p) (H p) (K p) → Top l (H p) → IH → Climbs (suc f) (suc f₁) (suc f₂) p
       go (inner e g) t ih = within (H p) refl (sym e) (subst Goes (sym e) g) t ih
-      go (outer e k m) t ih = outside (H p) refl k m t ih ∙ sym (behind-nil (repeat K (suc f₂) p)) ∙ ap (λ (z : Answer). Next z (repeat K (suc f₂))) (sym (turn-last G f₁ p e))
+      go (outer e k m) t ih = outside (H p) refl k m t ih ∙ sym (behind-none (repeat K (suc f₂) p)) ∙ ap (λ (z : Answer). Next z (repeat K (suc f₂))) (sym (turn-last G f₁ p e))
 
 -- ---- the rules
 
@@ -259,7 +260,7 @@ module _ (gap : Rule) (s : List ℕ) (F e : ℕ) where
       where
         go : (f : ℕ) → length s < f → (x : Answer) → x ≡ Next x (repeat (λ p. got false nil p) f)
         go zero l x = absurd (omega arith)
-        go (suc f) l (got true o p) = ap (λ (v : Forest). got true v p) (sym (join-nil o))
+        go (suc f) l (got true o p) = ap (λ (v : Forest). got true v p) (sym (behind-nil o))
         go (suc f) l (got false o p) = refl
         go (suc f) l (trouble n a b c d) = refl
 

@@ -10,7 +10,6 @@ pub mod Agree
 pub mod Moves
 pub mod Flat
 pub mod Again
-pub mod Deeper
 pub mod Spots
 pub mod Flow
 pub mod Advance
@@ -19,6 +18,7 @@ pub mod Found
 pub mod Hole
 pub mod Stuck
 pub mod Formed
+pub mod Deeper
 pub mod Single
 pub mod Rows
 pub mod Moved

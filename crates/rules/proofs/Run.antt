@@ -1,86 +1,27 @@
 -- Laws of the interpreter, for every grammar.
 use mathlib.Core.Path.{_≡_, refl, sym, ap, subst, _∙_}
 use mathlib.Core.Bool.{Bool, true, false}
-use mathlib.Core.List.{List, [], _∷_, _++_, append-assoc}
+use mathlib.Core.List.{List, [], _∷_}
 use Prim.Native.Nat.{ℕ, zero, suc, _+_, _*_, _≤_, _<_}
 use native.Mathlib.Omega.{arith}
-use lib.ListN.{length, getD, length-append}
+use lib.ListN.{length, getD}
 use lib.Dec.{eqb, ltb}
 use borrow.Author.Tests.{lt-ltb}
 use Rattle.rules.specs.Forest.{Label, node, content, Forest, nil, byte, group, _⋈_, width}
 use Rattle.rules.specs.Rule.{Place, here, mark, fromMark, thisByte, Verdict, fine, differ, Rule, done, stop, step, refuse, when, starts, after, seq, many, wrap, said, marked, paired}
 use Rattle.rules.specs.Parse.{Answer, got, trouble, pick, andThen, behind, byteAt, opens, refusal, judged, repeat, parse}
-use Rattle.rules.specs.Record.{rowWords, row, count, records}
+use Rattle.rules.proofs.Forests.{behind-nil, behind-assoc, width-behind}
 
--- ---- forests
+-- ---- an answer behind a forest
 
-pub join-nil : (u : Forest) → u ⋈ nil ≡ u
+pub behind-none : (x : Answer) → behind nil x ≡ x
 unfolding _⋈_
-join-nil nil = refl
-join-nil (byte b u) = ap (λ (v : Forest). byte b v) (join-nil u)
-join-nil (group k c u) = ap (λ (v : Forest). group k c v) (join-nil u)
-
-pub join-assoc : (u v w : Forest) → (u ⋈ v) ⋈ w ≡ u ⋈ (v ⋈ w)
-unfolding _⋈_
-join-assoc nil v w = refl
-join-assoc (byte b u) v w = ap (λ (x : Forest). byte b x) (join-assoc u v w)
-join-assoc (group k c u) v w = ap (λ (x : Forest). group k c x) (join-assoc u v w)
-
-pub behind-nil : (x : Answer) → behind nil x ≡ x
-unfolding _⋈_
-behind-nil (got a o p) = refl
-behind-nil (trouble n a b c d) = refl
+behind-none (got a o p) = refl
+behind-none (trouble n a b c d) = refl
 
 pub behind-behind : (u v : Forest) (x : Answer) → behind u (behind v x) ≡ behind (u ⋈ v) x
-behind-behind u v (got a o p) = ap (λ (w : Forest). got a w p) (sym (join-assoc u v o))
+behind-behind u v (got a o p) = ap (λ (w : Forest). got a w p) (sym (behind-assoc u v o))
 behind-behind u v (trouble n a b c d) = refl
-
-pub width-join : (u v : Forest) → width (u ⋈ v) ≡ width u + width v
-unfolding width _⋈_
-width-join nil v = omega arith
-width-join (byte b u) v = let h = width-join u v in omega arith
-width-join (group k c u) v = let h = width-join u v in omega arith
-
-pub count-join : (u v : Forest) → count (u ⋈ v) ≡ count u + count v
-unfolding count _⋈_
-count-join nil v = omega arith
-count-join (byte b u) v = count-join u v
-count-join (group (node k x) c u) v = let h = count-join u v in omega arith
-count-join (group (content d) c u) v = let h = count-join u v in omega arith
-
--- A row for each node.
-pub length-records : (u : Forest) (at n par : ℕ) → length (records at n par u) ≡ rowWords * count u
-unfolding count records
-length-records nil at n par = refl
-length-records (byte b u) at n par = length-records u (at + 1) n par
-length-records (group (node k x) c u) at n par =
-    let h₁ = length-records c at (n + 1) n in
-    let h₂ = length-records u (at + width c) (n + (1 + count c)) par in
-    let h₃ = length-append (records at (n + 1) n c) (records (at + width c) (n + (1 + count c)) par u) in
-    omega arith
-length-records (group (content d) c u) at n par =
-    let h₁ = length-records c at n par in
-    let h₂ = length-records u (at + width c) (n + count c) par in
-    let h₃ = length-append (records at n par c) (records (at + width c) (n + count c) par u) in
-    omega arith
-
-records-at : (v : Forest) (par : ℕ) {a a′ n n′ : ℕ} → a ≡ a′ → n ≡ n′ → records a n par v ≡ records a′ n′ par v
-records-at v par p q = λ i. records (p i) (q i) par v
-
--- The table of two forests: the first's, then the second's, further on.
-pub records-join : (u v : Forest) (at n par : ℕ) → records at n par (u ⋈ v) ≡ records at n par u ++ records (at + width u) (n + count u) par v
-unfolding count records width _⋈_
-records-join nil v at n par = records-at v par (omega arith) (omega arith)
-records-join (byte b u) v at n par = records-join u v (at + 1) n par ∙ ap (λ (l : List ℕ). records (at + 1) n par u ++ l) (records-at v par (omega arith) refl)
-records-join (group (node k x) c u) v at n par =
-    ap (row k at (at + width c) par (n + (1 + count c)) x)
-    (ap (λ (l : List ℕ). records at (n + 1) n c ++ l)
-    (records-join u v (at + width c) (n + (1 + count c)) par ∙ ap (λ (l : List ℕ). records (at + width c) (n + (1 + count c)) par u ++ l) (records-at v par (omega arith) (omega arith)))
-    ∙ sym (append-assoc (records at (n + 1) n c) _ _))
-records-join (group (content d) c u) v at n par =
-    ap (λ (l : List ℕ). records at n par c ++ l)
-    (records-join u v (at + width c) (n + count c) par ∙ ap (λ (l : List ℕ). records (at + width c) (n + count c) par u ++ l) (records-at v par (omega arith) (omega arith)))
-    ∙ sym (append-assoc (records at n par c) _ _)
 
 -- ---- what is said of an answer
 
@@ -214,7 +155,7 @@ abbrev pub Wide : List ℕ → ℕ → Answer → Type 0
 Wide s at x = Then x (WideTo s at)
 
 wide-behind : (s : List ℕ) (at p : ℕ) (u : Forest) (x : Answer) → (p ≡ at + width u) × Lies s at u → Wide s p x → Wide s at (behind u x)
-wide-behind s at p u x h w = then-behind (WideTo s p) (WideTo s at) u x w (λ a o q k. (let j = width-join u o in omega arith, lies-join s u o at (h .1) (lies-at s o (h .0) (k .1))))
+wide-behind s at p u x h w = then-behind (WideTo s p) (WideTo s at) u x w (λ a o q k. (let j = width-behind u o in omega arith, lies-join s u o at (h .1) (lies-at s o (h .0) (k .1))))
 
 pub wide-repeat : (s : List ℕ) (body : ℕ → Answer) → ((at : ℕ) → Wide s at (body at)) → (f at : ℕ) → Wide s at (repeat body f at)
 unfolding repeat
@@ -326,7 +267,7 @@ module _ (E : Answer) (body : ℕ → Answer) (l : ℕ) (acc : Forest) where
 
   -- the last turn read nothing
   pub loop-ends : (f p : ℕ) {q : ℕ} → E ≡ behind acc (repeat body f p) → l < f + p → p ≤ l → body p ≡ got false nil q → E ≡ got true acc q
-  loop-ends f p {q} e h i b = loop-last f p e h i b ∙ ap (λ (x : Forest). got true x q) (join-nil acc)
+  loop-ends f p {q} e h i b = loop-last f p e h i b ∙ ap (λ (x : Forest). got true x q) (behind-nil acc)
 
   -- A turn that refuses.
   pub loop-no : (f p : ℕ) {x a b c d : ℕ} → E ≡ behind acc (repeat body f p) → l < f + p → p ≤ l → body p ≡ trouble x a b c d → E ≡ trouble x a b c d
