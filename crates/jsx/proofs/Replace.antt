@@ -6,30 +6,41 @@ use mathlib.Core.List.{List, [], _∷_, _++_}
 use Prim.Native.Nat.{ℕ, zero, suc, _+_, _-_, _*_, _≤_, _<_}
 use Prim.Native.Char.{Char, code}
 use native.Mathlib.Omega.{arith}
-use lib.ListN.{length, take, drop}
+use native.Mathlib.Nat.{zero-add}
+use lib.ListN.{length, take, drop, getD}
 use lib.Dec.{eqb}
 use borrow.Author.Tests.{eqb-true}
-use Rattle.rules.specs.Forest.{Forest, width}
+use Rattle.rules.specs.Forest.{Label, node, content, Forest, nil, group, _⋈_, width}
 use Rattle.rules.specs.Rule.{Rule}
 use Rattle.rules.specs.Parse.{Answer, got, pick, byteAt, repeat, parse, parseAll}
+use Rattle.rules.specs.Record.{rowWords, count, records}
 use Rattle.rules.proofs.Run.{wide-got}
 use Rattle.rules.proofs.Ends.{top-got}
 use Rattle.rules.proofs.Agree.{Plain, byte-end}
 use Rattle.rules.proofs.Spots.{Spot, fill, start, fits}
 use Rattle.rules.proofs.Flow.{Mode, near, pend}
 use Rattle.rules.proofs.Found.{Content, found}
+use Rattle.rules.proofs.Formed.{Formed, formed}
+use Rattle.rules.proofs.Rows.{eachRow}
+use Rattle.rules.proofs.Moved.{moved, beyond}
+use Rattle.rules.proofs.Edited.{widened, pushed, first, holder, Edited, edited, edited-moved}
+use Rattle.rules.proofs.Held.{insideOf, placeOf, ContentOf, content-of}
+use Rattle.rules.proofs.Numbered.{labelOf, RowOf, row-of, formed-at, NodeIs, first-child, child-behind}
+use Rattle.jsx.specs.Kind as Kind
 use Rattle.jsx.specs.Byte.{is, end}
 use Rattle.jsx.specs.Blank.{pass}
 use Rattle.jsx.specs.Element.{children}
 use Rattle.jsx.specs.Depth.{within}
 use Rattle.jsx.specs.Reading.{Limits, stage, run}
-use Rattle.jsx.specs.Table.{Outcome, accepted, check}
-use Rattle.jsx.proofs.Paired.{wellPaired}
+use Rattle.jsx.specs.Table.{Outcome, missing, accepted, check, word}
+use Rattle.jsx.proofs.Paired.{HasContent, pairedLabel, wellPaired}
 use Rattle.jsx.proofs.Shape.{contentOf, closer, L, stage-flow, run-flow}
 use Rattle.jsx.proofs.Child.{endOrAngle, cbody, stops-at, stops-before}
 use Rattle.jsx.proofs.Cut.{Cut, at-end, behind-ascii, before-ascii, good-replace}
 use Rattle.jsx.proofs.JoinRead.{Reads}
 use Rattle.jsx.proofs.ReplaceRead.{replace-reads}
+use Rattle.jsx.proofs.Few.{run-few, stage-few}
+use Rattle.jsx.proofs.Join.{rowsOf}
 use Rattle.jsx.proofs.Accepted.{Accepted, Proper, stage-proper, run-proper, check-zero, accepted-check}
 
 -- The input with other bytes in the place of a content.
@@ -106,3 +117,149 @@ stage-replace = replaces stage (λ n. stage-flow n)
 pub run-replace : (l : Limits) (s y : List ℕ) → Plain s → Plain y → {u v : Forest} → Accepted l run s u → {d : ℕ} {c₀ : Forest} (ω : Spot d c₀ u) → Accepted (withDepth l d) run y v
     → length (put s ω y) ≤ l .bytes → Accepted l run (put s ω y) (fill ω v)
 run-replace = replaces run (λ n. run-flow n)
+
+-- ---- by record number, and of tables
+
+-- The number's row is a fragment's, or a paired element's.
+abbrev pub pairedRow : (rows : List ℕ) (j : ℕ) → Bool
+pairedRow rows j = pairedLabel (node (word rows j 0) (word rows j 5))
+
+-- The content that the record j has: where it stands, and what replacing it does to the rows.
+pub record ContentOfRecord (u : Forest) (j : ℕ) : Type 0 where
+  -- the levels left inside it, and what stands there
+  pub depth : ℕ
+  pub inner : Forest
+  pub spot : Spot depth inner u
+  -- it begins where the opening tag ends, which is the next record,
+  pub begins : start spot ≡ word (rowsOf u) (j + 1) 2
+  -- and ends where the closing tag begins, which is the first record behind its own;
+  pub ends : start spot + width inner ≡ word (rowsOf u) (first spot + count inner) 1
+  -- its outermost records have the record j for parent.
+  pub parent : holder 0 missing spot ≡ j
+  -- the rows in front of it and behind it, and what becomes of them
+  pub rows : Edited spot 0 0 missing
+
+module _ (u : Forest) (small : count u ≤ missing) (formed-u : Formed wellPaired u) (j : ℕ) (known : j < count u) (pr : pairedRow (rowsOf u) j ≡ true) where
+  in-range : j < 0 + count u
+  in-range = omega arith
+
+  row-j : RowOf u 0 0 missing j j
+  row-j = row-of u 0 0 missing j j (omega arith) known
+
+  paired-j : pairedLabel (labelOf 0 j u) ≡ true
+  unfolding word
+  paired-j = ap pairedLabel (row-j .label ∙ (λ i. node (sym kind-is i) (sym extra-is i))) ∙ pr
+    where
+      kind-is : getD (rowsOf u) (rowWords * j + 0) 0 ≡ row-j .kind
+      kind-is = ap (λ (n : ℕ). getD (rowsOf u) n 0) (omega arith) ∙ row-j .kind-word
+
+      extra-is : getD (rowsOf u) (rowWords * j + 5) 0 ≡ row-j .extra
+      extra-is = row-j .extra-word
+
+  -- An opening tag, a content and a closing tag.
+  has : HasContent (insideOf 0 j u)
+  has = formed-at wellPaired u 0 j formed-u (omega arith) in-range paired-j
+
+  tag : Forest
+  tag = has .0
+
+  close : Forest
+  close = has .3
+
+  abbrev opening : Forest
+  opening = group (node Kind.openingTag 0) tag nil
+
+  abbrev closing : Forest
+  closing = group (node Kind.closingTag 0) close nil
+
+  abbrev between : Forest
+  between = group (node Kind.openingTag 0) tag (group (content (has .1)) (has .2) nil)
+
+  held-j : ContentOf (has .1) (has .2) u 0 missing j opening closing
+  held-j = content-of (has .1) (has .2) u 0 missing j opening closing (omega arith) (unfold _⋈_ tag close in has .4)
+
+  first-row : NodeIs u 0 0 (j + 1) (node Kind.openingTag 0) tag (placeOf 0 0 j u)
+  first-row = first-child u 0 0 j Kind.openingTag 0 tag (group (content (has .1)) (has .2) closing) (omega arith) in-range (unfold tag close in has .4)
+
+  last-row : NodeIs u 0 0 (j + 1 + count between) (node Kind.closingTag 0) close (placeOf 0 0 j u + width between)
+  last-row = child-behind u 0 0 j between Kind.closingTag 0 close nil (omega arith) in-range (unfold _⋈_ tag close in has .4)
+
+  row-at : (n : ℕ) → n < 0 + count u → RowOf u 0 0 missing n n
+  row-at n h = row-of u 0 0 missing n n (omega arith) (omega arith)
+
+  opening-end : word (rowsOf u) (j + 1) 2 ≡ placeOf 0 0 j u + width tag
+  unfolding word
+  opening-end = row-at (j + 1) (first-row .known) .end-word ∙ (λ i. first-row .place i + width (first-row .inner i))
+
+  closing-start : word (rowsOf u) (j + 1 + count between) 1 ≡ placeOf 0 0 j u + width between
+  unfolding word
+  closing-start = row-at (j + 1 + count between) (last-row .known) .start-word ∙ last-row .place
+
+  ends-at : start (held-j .spot) + width (has .2) ≡ word (rowsOf u) (j + 1 + count between) 1
+  unfolding width
+  ends-at = omega (arith, held-j .begins 0, closing-start)
+
+  number-is : j + 1 + count between ≡ first (held-j .spot) + count (has .2)
+  unfolding count
+  number-is = omega (arith, held-j .since)
+
+  -- The content of a paired record.
+  pub content-of-record : ContentOfRecord u j
+  unfolding width count
+  content-of-record = record {
+    depth = has .1;
+    inner = has .2;
+    spot = held-j .spot;
+    begins = omega (arith, held-j .begins 0, opening-end);
+    ends = ends-at ∙ ap (λ (n : ℕ). word (rowsOf u) n 1) number-is;
+    parent = held-j .parent;
+    rows = edited (held-j .spot) (held-j .follows (omega arith)) 0 0 missing (beyond 0 (count u) (omega arith));
+  }
+
+-- What the two readings have in common: how far they look, and that their records are few.
+pub record Readable (reading : ℕ → Rule) : Type 0 where
+  pub out : ℕ → Mode
+  pub flow : (n : ℕ) → L near (reading n) (out n) near
+  pub few : (n : ℕ) (s : List ℕ) (a : Bool) (u : Forest) (p : ℕ) → parseAll (reading n) s ≡ got a u p → count u ≤ 2 * length s
+
+pub stage-readable : Readable stage
+stage-readable = record { out = λ n. near; flow = λ n. stage-flow n; few = λ n s a u p h. stage-few n s h }
+
+pub run-readable : Readable run
+run-readable = record { out = λ n. pend pass; flow = λ n. run-flow n; few = λ n s a u p h. run-few n s h }
+
+-- Limits of length up to document 01's: every record number is below that of the missing parent.
+module _ (reading : ℕ → Rule) (rd : Readable reading) (l : Limits) (small : l .bytes ≤ 1_048_576) (s : List ℕ) (ps : Plain s) {u : Forest} (a : Accepted l reading s u) (j : ℕ) (known : j < count u) (pr : pairedRow (rowsOf u) j ≡ true) where
+  -- The content of the record j is what is meant.
+  pub meant : ContentOfRecord u j
+  unfolding Reads parseAll
+  meant =
+      let n = rd .few (l .depth) s true u (a .reads .0) (a .reads .1) in
+      let h = a .short in
+      content-of-record u (omega arith) (formed wellPaired contentOf closer s (suc (length s)) (rd .flow (l .depth)) 0 0 true u (a .reads .0) (a .reads .1)) j known pr
+
+  -- After it was replaced by the run y, which is read as v.
+  pub record Replaced (y : List ℕ) (v : Forest) : Type 0 where
+    -- the input stays accepted, and is read with the run's reading inside;
+    pub stays : Accepted l reading (put s (meant .spot) y) (fill (meant .spot) v)
+    -- its rows were those in front of the content, the content's, and those behind it;
+    pub was : rowsOf u ≡ meant .rows .ahead ++ (records (start (meant .spot)) (first (meant .spot)) j (meant .inner) ++ meant .rows .rest)
+    -- now: in front, rows stay, but that the records around the content have their `end` and `after` moved; then the run's rows moved along, with the record j for parent;
+    -- behind, all places and numbers of records behind the content are moved.
+    pub now : rowsOf (fill (meant .spot) v) ≡ eachRow (widened (first (meant .spot)) (meant .inner) v) (meant .rows .ahead)
+        ++ (moved (start (meant .spot)) (first (meant .spot)) missing j (rowsOf v)
+        ++ eachRow (pushed (first (meant .spot)) missing (meant .inner) v) (meant .rows .rest))
+
+  -- DEMAND 3: any accepted run that keeps the length limit, and the depth limit by the depth that is left there.
+  pub replace-record : (y : List ℕ) → Plain y → {v : Forest} → Accepted (withDepth l (meant .depth)) run y v → length (put s (meant .spot) y) ≤ l .bytes → Replaced y v
+  replace-record y py {v} b h = record {
+    stays = replaces reading (rd .flow) l s y ps py a (meant .spot) b h;
+    was = meant .rows .was ∙ (λ i. meant .rows .ahead ++ (records (zero-add (start (meant .spot)) i) (zero-add (first (meant .spot)) i) (meant .parent i) (meant .inner) ++ meant .rows .rest));
+    now = edited-moved (meant .spot) 0 0 missing missing (meant .rows) v (few-rows (b .reads) (b .short))
+        ∙ (λ i. eachRow (widened (zero-add (first (meant .spot)) i) (meant .inner) v) (meant .rows .ahead)
+        ++ (moved (zero-add (start (meant .spot)) i) (zero-add (first (meant .spot)) i) missing (meant .parent i) (rowsOf v)
+        ++ eachRow (pushed (zero-add (first (meant .spot)) i) missing (meant .inner) v) (meant .rows .rest)));
+  }
+    where
+      few-rows : Reads (run (meant .depth)) y v → length y ≤ l .bytes → count v ≤ missing
+      few-rows r q = unfold Reads in (let n = run-few (meant .depth) y (r .1) in omega arith)

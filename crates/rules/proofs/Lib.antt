@@ -25,3 +25,4 @@ pub mod Moved
 pub mod Joined
 pub mod Edited
 pub mod Held
+pub mod Numbered

@@ -1,0 +1,491 @@
+-- A node by its record number: its label, its place, what is inside it, its row and its children.
+use mathlib.Core.Path.{_≡_, refl, sym, ap, _∙_, subst, subst₂, subst₃}
+use mathlib.Core.Logic.{_⊎_, inl, inr}
+use mathlib.Core.Bool.{Bool, true, false}
+use mathlib.Core.List.{List, [], _++_, append-assoc}
+use Prim.Native.Nat.{ℕ, _+_, _*_, _≤_, _<_}
+use native.Mathlib.Omega.{arith}
+use lib.Dec.{eqb, ltb}
+use lib.ListN.{length, take, drop, getD, length-append}
+use lib.Seq.{drop-at, getD-at, getD-append-add}
+use borrow.Author.Tests.{ltb-true, ltb-false, lt-ltb, le-ltb, eqb-true, eqb-false, eq-eqb, ne-eqb}
+use Rattle.rules.specs.Forest.{Label, node, content, Forest, nil, byte, group, _⋈_, width}
+use Rattle.rules.specs.Parse.{pick}
+use Rattle.rules.specs.Record.{rowWords, row, count, records}
+use Rattle.rules.proofs.Forests.{length-records}
+use Rattle.rules.proofs.Formed.{Formed}
+use Rattle.rules.proofs.Spots.{Spot, here, under, past, skip, fill, start, fill-same}
+use Rattle.rules.proofs.Edited.{first, holder, Followed, count-fits}
+use Rattle.rules.proofs.Held.{insideOf, placeOf, ContentOf, content-of}
+
+-- The label of the node with the number j, in a forest whose first record is n.
+unfoldable pub labelOf : (n j : ℕ) → Forest → Label
+labelOf n j nil = content 0
+labelOf n j (byte b u) = labelOf n j u
+labelOf n j (group (node k x) c u) = pick (eqb j n) (node k x) (pick (ltb j (n + (1 + count c))) (labelOf (n + 1) j c) (labelOf (n + (1 + count c)) j u))
+labelOf n j (group (content d) c u) = pick (ltb j (n + count c)) (labelOf n j c) (labelOf (n + count c) j u)
+
+-- The way to the node with the number j: it has the label l, t is inside it, and its first byte is at q.
+data Way (j : ℕ) (l : Label) (t : Forest) (q : ℕ) : (at n : ℕ) → Forest → Type 0 where
+  self : {at n k x : ℕ} {c v : Forest} → j ≡ n → l ≡ node k x → t ≡ c → q ≡ at → Way j l t q at n (group (node k x) c v)
+  inNode : {at n k x : ℕ} {c v : Forest} → Way j l t q at (n + 1) c → Way j l t q at n (group (node k x) c v)
+  pastNode : {at n k x : ℕ} {c v : Forest} → Way j l t q (at + width c) (n + (1 + count c)) v → Way j l t q at n (group (node k x) c v)
+  inContent : {at n d : ℕ} {c v : Forest} → Way j l t q at n c → Way j l t q at n (group (content d) c v)
+  pastContent : {at n d : ℕ} {c v : Forest} → Way j l t q (at + width c) (n + count c) v → Way j l t q at n (group (content d) c v)
+  pastByte : {at n b : ℕ} {v : Forest} → Way j l t q (at + 1) n v → Way j l t q at n (byte b v)
+
+-- The node with the number j, found by labelOf, insideOf and placeOf.
+abbrev Found : (at n j : ℕ) → Forest → Type 0
+Found at n j u = Way j (labelOf n j u) (insideOf n j u) (placeOf at n j u) at n u
+
+-- Every record is the one of such a node.
+found : (u : Forest) (at n j : ℕ) → n ≤ j → j < n + count u → Found at n j u
+unfolding labelOf insideOf placeOf count
+found nil at n j l h = absurd (omega arith)
+found (byte b u) at n j l h = pastByte (found u (at + 1) n j l h)
+found (group (node k x) c u) at n j l h = go (eqb j n) refl (ltb j (n + (1 + count c))) refl (found c at (n + 1) j) (found u (at + width c) (n + (1 + count c)) j)
+  where
+    go : (b : Bool) → eqb j n ≡ b → (b′ : Bool) → ltb j (n + (1 + count c)) ≡ b′
+        → (n + 1 ≤ j → j < n + 1 + count c → Found at (n + 1) j c)
+        → (n + (1 + count c) ≤ j → j < n + (1 + count c) + count u → Found (at + width c) (n + (1 + count c)) j u)
+        → Found at n j (group (node k x) c u)
+    go true e b′ e′ hc hu = rw e (self (eqb-true j n e) refl refl refl)
+    go false e true e′ hc hu =
+        let q = eqb-false j n e in let r = ltb-true j (n + (1 + count c)) e′ in rw (e, e′) (inNode (hc (omega arith) (omega arith)))
+    go false e false e′ hc hu = let r = ltb-false j (n + (1 + count c)) e′ in rw (e, e′) (pastNode (hu r (omega arith)))
+found (group (content d) c u) at n j l h = go (ltb j (n + count c)) refl (found c at n j l) (found u (at + width c) (n + count c) j)
+  where
+    go : (b : Bool) → ltb j (n + count c) ≡ b → (j < n + count c → Found at n j c)
+        → (n + count c ≤ j → j < n + count c + count u → Found (at + width c) (n + count c) j u)
+        → Found at n j (group (content d) c u)
+    go true e hc hu = rw e (inContent (hc (ltb-true j (n + count c) e)))
+    go false e hc hu = let r = ltb-false j (n + count c) e in rw e (pastContent (hu r (omega arith)))
+
+module _ {j : ℕ} {l : Label} {t : Forest} {q : ℕ} where
+  -- A way leads to a record of the forest, and all records in the node are of the forest too.
+  way-bounds : {at n : ℕ} {u : Forest} → Way j l t q at n u → (n ≤ j) × (j + 1 + count t ≤ n + count u)
+  unfolding count
+  way-bounds (self e p s a) = let z = ap count s in omega arith
+  way-bounds (inNode w) = let h = way-bounds w in omega arith
+  way-bounds (pastNode w) = let h = way-bounds w in omega arith
+  way-bounds (inContent w) = let h = way-bounds w in omega arith
+  way-bounds (pastContent w) = let h = way-bounds w in omega arith
+  way-bounds (pastByte w) = way-bounds w
+
+  -- And labelOf, insideOf and placeOf find what it leads to.
+  way-is : {at n : ℕ} {u : Forest} → Way j l t q at n u → (labelOf n j u ≡ l) × (insideOf n j u ≡ t) × (placeOf at n j u ≡ q)
+  unfolding labelOf insideOf placeOf
+  way-is (self {n = n} e p s a) = rw (eq-eqb j n e) (sym p, sym s, sym a)
+  way-is (inNode {n = n} {c = c} w) =
+      let h = way-bounds w in rw (ne-eqb j n (omega arith), lt-ltb j (n + (1 + count c)) (omega arith)) (way-is w)
+  way-is (pastNode {n = n} {c = c} w) =
+      let h = way-bounds w in rw (ne-eqb j n (omega arith), le-ltb j (n + (1 + count c)) (omega arith)) (way-is w)
+  way-is (inContent {n = n} {c = c} w) = let h = way-bounds w in rw (lt-ltb j (n + count c) (omega arith)) (way-is w)
+  way-is (pastContent {n = n} {c = c} w) = let h = way-bounds w in rw (le-ltb j (n + count c) (omega arith)) (way-is w)
+  way-is (pastByte w) = way-is w
+
+  -- A way on from there, in what is inside the node, is a way.
+  way-on : {at n : ℕ} {u : Forest} {j′ : ℕ} {l′ : Label} {t′ : Forest} {q′ : ℕ} → Way j l t q at n u → Way j′ l′ t′ q′ q (j + 1) t → Way j′ l′ t′ q′ at n u
+  way-on {j′ = j′} {l′} {t′} {q′} (self e p s a) w′ = inNode (subst₃ (Way j′ l′ t′ q′) a (ap (λ (m : ℕ). m + 1) e) s w′)
+  way-on (inNode w) w′ = inNode (way-on w w′)
+  way-on (pastNode w) w′ = pastNode (way-on w w′)
+  way-on (inContent w) w′ = inContent (way-on w w′)
+  way-on (pastContent w) w′ = pastContent (way-on w w′)
+  way-on (pastByte w) w′ = pastByte (way-on w w′)
+
+  -- It leads to a node.
+  way-label : {at n : ℕ} {u : Forest} → Way j l t q at n u → (k : ℕ) × (x : ℕ) × (l ≡ node k x)
+  way-label (self {k = k} {x} e p s a) = (k, x, p)
+  way-label (inNode w) = way-label w
+  way-label (pastNode w) = way-label w
+  way-label (inContent w) = way-label w
+  way-label (pastContent w) = way-label w
+  way-label (pastByte w) = way-label w
+
+  -- What holds of every node holds of it.
+  way-formed : (R : Label → Forest → Type 0) {at n : ℕ} {u : Forest} → Way j l t q at n u → Formed R u → R l t
+  way-formed R (self e p s a) f = subst₂ R (sym p) (sym s) (f .0)
+  way-formed R (inNode w) f = way-formed R w (f .1)
+  way-formed R (pastNode w) f = way-formed R w (f .2)
+  way-formed R (inContent w) f = way-formed R w (f .1)
+  way-formed R (pastContent w) f = way-formed R w (f .2)
+  way-formed R (pastByte w) f = way-formed R w f
+
+-- The way to the node behind o.
+way-behind : (o v : Forest) (at n : ℕ) {k x : ℕ} {t : Forest} {j q : ℕ} → j ≡ n + count o → q ≡ at + width o → Way j (node k x) t q at n (o ⋈ group (node k x) t v)
+unfolding _⋈_ count width
+way-behind nil v at n e a = self {at = at} {n = n} (omega arith) refl refl (omega arith)
+way-behind (byte b o) v at n e a = pastByte (way-behind o v (at + 1) n e (omega arith))
+way-behind (group (node k x) c o) v at n e a = pastNode (way-behind o v (at + width c) (n + (1 + count c)) (omega arith) (omega arith))
+way-behind (group (content d) c o) v at n e a = pastContent (way-behind o v (at + width c) (n + count c) (omega arith) (omega arith))
+
+-- What holds of every node, with what is inside it, holds of the node with the number j.
+pub formed-at : (R : Label → Forest → Type 0) (u : Forest) (n j : ℕ) → Formed R u → n ≤ j → j < n + count u → R (labelOf n j u) (insideOf n j u)
+formed-at R u n j f l h = way-formed R (found u 0 n j l h) f
+
+-- Every record is a node's: its label is no content.
+pub label-node : (u : Forest) (n j : ℕ) → n ≤ j → j < n + count u → (k : ℕ) × (x : ℕ) × (labelOf n j u ≡ node k x)
+label-node u n j l h = way-label (found u 0 n j l h)
+
+-- The records in the node with the number j are records of the forest.
+pub inside-fits : (u : Forest) (n j : ℕ) → n ≤ j → j < n + count u → j + 1 + count (insideOf n j u) ≤ n + count u
+inside-fits u n j l h = way-bounds (found u 0 n j l h) .1
+
+-- ---- the row of a node
+
+-- A table that has the row of the node with the number j, its first row being number n.
+record Cut (n j : ℕ) (l : Label) (t : Forest) (q : ℕ) (s : List ℕ) : Type 0 where
+  before : List ℕ
+  rest : List ℕ
+  kind : ℕ
+  extra : ℕ
+  parent : ℕ
+  label : l ≡ node kind extra
+  size : rowWords * n + length before ≡ rowWords * j
+  split : s ≡ before ++ row kind q (q + width t) parent (j + (1 + count t)) extra rest
+
+module _ {j : ℕ} {l : Label} {t : Forest} {q : ℕ} where
+  -- Rows behind it change nothing.
+  cut-more : {n : ℕ} {s : List ℕ} → Cut n j l t q s → (b : List ℕ) → Cut n j l t q (s ++ b)
+  cut-more h b = record {
+    before = h .before;
+    rest = h .rest ++ b;
+    kind = h .kind;
+    extra = h .extra;
+    parent = h .parent;
+    label = h .label;
+    size = h .size;
+    split = (λ i. h .split i ++ b) ∙ append-assoc (h .before) _ b;
+  }
+
+  -- Rows before it have the numbers before.
+  cut-further : {n n′ : ℕ} {s : List ℕ} → Cut n′ j l t q s → (a : List ℕ) → rowWords * n + length a ≡ rowWords * n′ → Cut n j l t q (a ++ s)
+  cut-further h a e = record {
+    before = a ++ h .before;
+    rest = h .rest;
+    kind = h .kind;
+    extra = h .extra;
+    parent = h .parent;
+    label = h .label;
+    size = simp length-append (omega (arith, h .size));
+    split = (λ i. a ++ h .split i) ∙ sym (append-assoc a (h .before) _);
+  }
+
+  -- The table of a forest has the row of the node that a way leads to.
+  way-cut : {at n : ℕ} {u : Forest} → Way j l t q at n u → (par : ℕ) → Cut n j l t q (records at n par u)
+  unfolding records
+  way-cut (self {at} {n} {k} {x} {c} {v} e p s a) par = record {
+    before = [];
+    rest = records at (n + 1) n c ++ records (at + width c) (n + (1 + count c)) par v;
+    kind = k;
+    extra = x;
+    parent = par;
+    label = p;
+    size = omega arith;
+    split = λ i. row k (sym a i) (sym a i + width (sym s i)) par (sym e i + (1 + count (sym s i))) x (records at (n + 1) n c ++ records (at + width c) (n + (1 + count c)) par v);
+  }
+  way-cut (inNode {at} {n} {k} {x} {c} {v} w) par =
+      cut-further (cut-more (way-cut w n) (records (at + width c) (n + (1 + count c)) par v)) (row k at (at + width c) par (n + (1 + count c)) x []) (omega arith)
+  way-cut (pastNode {at} {n} {k} {x} {c} {v} w) par =
+      let z = length-records c at (n + 1) n in
+      cut-further (way-cut w par) (row k at (at + width c) par (n + (1 + count c)) x (records at (n + 1) n c)) (omega arith)
+  way-cut (inContent {at} {n} {d} {c} {v} w) par = cut-more (way-cut w par) (records (at + width c) (n + count c) par v)
+  way-cut (pastContent {at} {n} {d} {c} {v} w) par = let z = length-records c at n par in cut-further (way-cut w par) (records at n par c) (omega arith)
+  way-cut (pastByte w) par = way-cut w par
+
+-- Past one list a list begins anew.
+getD-past : (p s : List ℕ) {m : ℕ} (i : ℕ) → length p ≡ m → getD (p ++ s) (m + i) 0 ≡ getD s i 0
+getD-past p s i e = rw (← e) (getD-append-add p s i 0)
+
+-- The row number m of the table of u, whose record has the number j: the node's kind, place, end, parent, the first number past its records, and its extra word.
+pub record RowOf (u : Forest) (at n par m j : ℕ) : Type 0 where
+  pub kind : ℕ
+  pub extra : ℕ
+  pub parent : ℕ
+  pub label : labelOf n j u ≡ node kind extra
+  pub whole : take rowWords (drop (rowWords * m) (records at n par u))
+      ≡ row kind (placeOf at n j u) (placeOf at n j u + width (insideOf n j u)) parent (j + (1 + count (insideOf n j u))) extra []
+  pub kind-word : getD (records at n par u) (rowWords * m) 0 ≡ kind
+  pub start-word : getD (records at n par u) (rowWords * m + 1) 0 ≡ placeOf at n j u
+  pub end-word : getD (records at n par u) (rowWords * m + 2) 0 ≡ placeOf at n j u + width (insideOf n j u)
+  pub parent-word : getD (records at n par u) (rowWords * m + 3) 0 ≡ parent
+  pub after-word : getD (records at n par u) (rowWords * m + 4) 0 ≡ j + (1 + count (insideOf n j u))
+  pub extra-word : getD (records at n par u) (rowWords * m + 5) 0 ≡ extra
+
+-- Every row is such a row.
+pub row-of : (u : Forest) (at n par m j : ℕ) → j ≡ n + m → m < count u → RowOf u at n par m j
+row-of u at n par m j e h = record {
+  kind = c .kind;
+  extra = c .extra;
+  parent = c .parent;
+  label = c .label;
+  whole = (λ i. take rowWords (drop (rowWords * m) (c .split i))) ∙ ap (take rowWords) (drop-at (c .before) _ (rowWords * m) long);
+  kind-word = ap (λ (s : List ℕ). getD s (rowWords * m) 0) (c .split) ∙ getD-at (c .before) _ _ 0 (rowWords * m) long;
+  start-word = word 1;
+  end-word = word 2;
+  parent-word = word 3;
+  after-word = word 4;
+  extra-word = word 5;
+}
+  where
+    c : Cut n j (labelOf n j u) (insideOf n j u) (placeOf at n j u) (records at n par u)
+    c = way-cut (found u at n j (omega arith) (omega arith)) par
+
+    long : length (c .before) ≡ rowWords * m
+    long = omega (arith, c .size)
+
+    word : (i : ℕ) → getD (records at n par u) (rowWords * m + i) 0
+        ≡ getD (row (c .kind) (placeOf at n j u) (placeOf at n j u + width (insideOf n j u)) (c .parent) (j + (1 + count (insideOf n j u))) (c .extra) (c .rest)) i 0
+    word i = ap (λ (s : List ℕ). getD s (rowWords * m + i) 0) (c .split) ∙ getD-past (c .before) _ i long
+
+-- ---- the nodes in a node
+
+-- The node with the number j′ has the label l and its first byte at q, and t is inside it.
+pub record NodeIs (u : Forest) (at n j′ : ℕ) (l : Label) (t : Forest) (q : ℕ) : Type 0 where
+  pub from : n ≤ j′
+  pub known : j′ < n + count u
+  pub label : labelOf n j′ u ≡ l
+  pub inner : insideOf n j′ u ≡ t
+  pub place : placeOf at n j′ u ≡ q
+
+way-node : {u : Forest} {at n j : ℕ} {l : Label} {t : Forest} {q : ℕ} → Way j l t q at n u → NodeIs u at n j l t q
+way-node w = let b = way-bounds w in let h = way-is w in record { from = b .0; known = omega arith; label = h .0; inner = h .1; place = h .2 }
+
+-- A node of what is inside the node with the number j is a node of the forest, with the same number and place.
+pub node-inside : (u : Forest) (at n j j′ : ℕ) → n ≤ j → j < n + count u → j + 1 ≤ j′ → j′ < j + 1 + count (insideOf n j u)
+    → NodeIs u at n j′ (labelOf (j + 1) j′ (insideOf n j u)) (insideOf (j + 1) j′ (insideOf n j u)) (placeOf (placeOf at n j u) (j + 1) j′ (insideOf n j u))
+node-inside u at n j j′ l h l′ h′ = way-node (way-on (found u at n j l h) (found (insideOf n j u) (placeOf at n j u) (j + 1) j′ l′ h′))
+
+-- The node behind o in the node with the number j: its number is past those of o, its place where o ends.
+pub child-behind : (u : Forest) (at n j : ℕ) (o : Forest) (k x : ℕ) (t v : Forest) → n ≤ j → j < n + count u
+    → insideOf n j u ≡ o ⋈ group (node k x) t v → NodeIs u at n (j + 1 + count o) (node k x) t (placeOf at n j u + width o)
+child-behind u at n j o k x t v l h e =
+    way-node (way-on (found u at n j l h) (subst (Way (j + 1 + count o) (node k x) t (placeOf at n j u + width o) (placeOf at n j u) (j + 1)) (sym e) (way-behind o v (placeOf at n j u) (j + 1) refl refl)))
+
+-- The first child: the next number, the same place.
+pub first-child : (u : Forest) (at n j k x : ℕ) (t v : Forest) → n ≤ j → j < n + count u
+    → insideOf n j u ≡ group (node k x) t v → NodeIs u at n (j + 1) (node k x) t (placeOf at n j u)
+first-child u at n j k x t v l h e =
+    way-node (way-on (found u at n j l h) (subst (Way (j + 1) (node k x) t (placeOf at n j u) (placeOf at n j u) (j + 1)) (sym e) (self refl refl refl refl)))
+
+-- A node with a content inside is a record of the forest, and so are the records in front of the content and in it.
+pub content-known : (d : ℕ) (c₀ u : Forest) (n j : ℕ) (o r : Forest) → n ≤ j → insideOf n j u ≡ o ⋈ group (content d) c₀ r → j + 1 + count o + count c₀ ≤ n + count u
+content-known d c₀ u n j o r l e = let h = content-of d c₀ u n 0 j o r l e in omega (arith, h .since, count-fits (h .spot))
+
+-- ---- the node that a spot stands in
+
+-- No content stands in it but in its nodes.
+abbrev pub Bare : Forest → Type 0
+Bare nil = Unit {0}
+Bare (byte b u) = Bare u
+Bare (group (node k x) c u) = Bare u
+Bare (group (content d) c u) = ⊥
+
+-- No content stands in a content but in its nodes.
+abbrev pub BareContents : Forest → Type 0
+BareContents nil = Unit {0}
+BareContents (byte b u) = BareContents u
+BareContents (group (node k x) c u) = BareContents c × BareContents u
+BareContents (group (content d) c u) = Bare c × BareContents c × BareContents u
+
+module _ {d : ℕ} {c₀ : Forest} where
+  -- The content stands in no group of the forest.
+  unfoldable pub Outermost : {u : Forest} → Spot d c₀ u → Type 0
+  Outermost (here p q) = Unit {0}
+  Outermost (under ω) = ⊥
+  Outermost (past ω) = Outermost ω
+  Outermost (skip ω) = Outermost ω
+
+  -- The content stands in a node, and in no other group inside that node.
+  unfoldable pub InNode : {u : Forest} → Spot d c₀ u → Type 0
+  InNode (here p q) = ⊥
+  InNode (under {l = node k x} ω) = Outermost ω ⊎ InNode ω
+  InNode (under {l = content d′} ω) = InNode ω
+  InNode (past ω) = InNode ω
+  InNode (skip ω) = InNode ω
+
+  -- In a bare forest no content is outermost.
+  bare-not-outermost : {u : Forest} (ω : Spot d c₀ u) → Bare u → Outermost ω → ⊥
+  unfolding Outermost
+  bare-not-outermost (here {l = node k x} p q) b s = let z : _≡_ {A = ℕ} 0 1 = cc in omega arith
+  bare-not-outermost (here {l = content d′} p q) b s = b
+  bare-not-outermost (under ω) b s = s
+  bare-not-outermost (past {l = node k x} ω) b s = bare-not-outermost ω b s
+  bare-not-outermost (past {l = content d′} ω) b s = b
+  bare-not-outermost (skip ω) b s = bare-not-outermost ω b s
+
+  -- So there it is in a node, if it is one or the other.
+  bare-in-node : {u : Forest} (ω : Spot d c₀ u) → Bare u → Outermost ω ⊎ InNode ω → InNode ω
+  bare-in-node ω b (inl s) = absurd (bare-not-outermost ω b s)
+  bare-in-node ω b (inr s) = s
+
+  -- Where contents are bare, it is one or the other.
+  outermost-or-in-node : {u : Forest} (ω : Spot d c₀ u) → BareContents u → Outermost ω ⊎ InNode ω
+  unfolding Outermost InNode
+  outermost-or-in-node (here p q) b = inl tt
+  outermost-or-in-node (under {l = node k x} ω) b = inr (outermost-or-in-node ω (b .0))
+  outermost-or-in-node (under {l = content d′} ω) b = inr (bare-in-node ω (b .0) (outermost-or-in-node ω (b .1)))
+  outermost-or-in-node (past {l = node k x} ω) b = outermost-or-in-node ω (b .1)
+  outermost-or-in-node (past {l = content d′} ω) b = outermost-or-in-node ω (b .2)
+  outermost-or-in-node (skip ω) b = outermost-or-in-node ω b
+
+  -- Where contents stand in nodes only, every spot is in a node.
+  pub in-node : {u : Forest} (ω : Spot d c₀ u) → Bare u → BareContents u → InNode ω
+  in-node ω e b = bare-in-node ω e (outermost-or-in-node ω b)
+
+  -- What stands before such a content, and what behind it.
+  record Between {u : Forest} (ω : Spot d c₀ u) : Type 0 where
+    o : Forest
+    r : Forest
+    filled : (v : Forest) → fill ω v ≡ o ⋈ group (content d) v r
+    parent : (n par : ℕ) → holder n par ω ≡ par
+    follows : 1 ≤ count r → Followed ω
+    since : first ω ≡ count o
+    begins : start ω ≡ width o
+
+  -- An outermost content stands between two forests.
+  between : {u : Forest} (ω : Spot d c₀ u) → Outermost ω → Between ω
+  unfolding Outermost fill holder Followed first start count width _⋈_
+  between (here {v = v} p q) s = record { o = nil; r = v; filled = λ w. ap (λ (l : Label). group l w v) p; parent = λ n par. refl; follows = λ h. h; since = refl; begins = refl }
+  between (under ω) s = absurd s
+  between (past {l = node k x} {c = c} ω) s = let h = between ω s in record {
+    o = group (node k x) c (h .o);
+    r = h .r;
+    filled = λ v. ap (group (node k x) c) (h .filled v);
+    parent = λ n par. h .parent (n + (1 + count c)) par;
+    follows = h .follows;
+    since = omega (arith, h .since);
+    begins = omega (arith, h .begins);
+  }
+  between (past {l = content d′} {c = c} ω) s = let h = between ω s in record {
+    o = group (content d′) c (h .o);
+    r = h .r;
+    filled = λ v. ap (group (content d′) c) (h .filled v);
+    parent = λ n par. h .parent (n + count c) par;
+    follows = h .follows;
+    since = omega (arith, h .since);
+    begins = omega (arith, h .begins);
+  }
+  between (skip {b = b} ω) s = let h = between ω s in record {
+    o = byte b (h .o);
+    r = h .r;
+    filled = λ v. ap (byte b) (h .filled v);
+    parent = h .parent;
+    follows = h .follows;
+    since = h .since;
+    begins = omega (arith, h .begins);
+  }
+
+  -- A content is in the node whose number is its holder, between o and r, whatever content is put there.
+  record StandsIn {u : Forest} (ω : Spot d c₀ u) (n par : ℕ) : Type 0 where
+    o : Forest
+    r : Forest
+    label : Label
+    place : ℕ → ℕ
+    way : (at : ℕ) (v : Forest) → Way (holder n par ω) label (o ⋈ group (content d) v r) (place at) at n (fill ω v)
+    follows : 1 ≤ count r → Followed ω
+    since : n + first ω ≡ holder n par ω + 1 + count o
+    begins : (at : ℕ) → at + start ω ≡ place at + width o
+
+  -- So it is for every content in a node.
+  stands-in : {u : Forest} (ω : Spot d c₀ u) (n par : ℕ) → InNode ω → StandsIn ω n par
+  unfolding InNode fill holder Followed first start
+  stands-in (here p q) n par s = absurd s
+  stands-in (under {l = node k x} {v = v} ω) n par s = go s (stands-in ω (n + 1) n)
+    where
+      go : Outermost ω ⊎ InNode ω → (InNode ω → StandsIn ω (n + 1) n) → StandsIn (under {l = node k x} {v = v} ω) n par
+      go (inl t) ih = let h = between ω t in let e = h .parent (n + 1) n in record {
+        o = h .o;
+        r = h .r;
+        label = node k x;
+        place = λ at. at;
+        way = λ at w. self e refl (sym (h .filled w)) refl;
+        follows = h .follows;
+        since = omega (arith, h .since);
+        begins = λ at. omega (arith, h .begins);
+      }
+      go (inr t) ih = let h = ih t in record {
+        o = h .o;
+        r = h .r;
+        label = h .label;
+        place = h .place;
+        way = λ at w. inNode (h .way at w);
+        follows = h .follows;
+        since = omega (arith, h .since);
+        begins = h .begins;
+      }
+  stands-in (under {l = content d′} ω) n par s = let h = stands-in ω n par s in record {
+    o = h .o;
+    r = h .r;
+    label = h .label;
+    place = h .place;
+    way = λ at w. inContent (h .way at w);
+    follows = h .follows;
+    since = h .since;
+    begins = h .begins;
+  }
+  stands-in (past {l = node k x} {c = c} ω) n par s = let h = stands-in ω (n + (1 + count c)) par s in record {
+    o = h .o;
+    r = h .r;
+    label = h .label;
+    place = λ at. h .place (at + width c);
+    way = λ at w. pastNode (h .way (at + width c) w);
+    follows = h .follows;
+    since = omega (arith, h .since);
+    begins = λ at. omega (arith, h .begins (at + width c));
+  }
+  stands-in (past {l = content d′} {c = c} ω) n par s = let h = stands-in ω (n + count c) par s in record {
+    o = h .o;
+    r = h .r;
+    label = h .label;
+    place = λ at. h .place (at + width c);
+    way = λ at w. pastContent (h .way (at + width c) w);
+    follows = h .follows;
+    since = omega (arith, h .since);
+    begins = λ at. omega (arith, h .begins (at + width c));
+  }
+  stands-in (skip ω) n par s = let h = stands-in ω n par s in record {
+    o = h .o;
+    r = h .r;
+    label = h .label;
+    place = λ at. h .place (at + 1);
+    way = λ at w. pastByte (h .way (at + 1) w);
+    follows = h .follows;
+    since = h .since;
+    begins = λ at. omega (arith, h .begins (at + 1));
+  }
+
+  -- A spot in a node is the content of that node, whose number is the spot's holder.
+  pub record SpotOf {u : Forest} (ω : Spot d c₀ u) (n par : ℕ) : Type 0 where
+    pub o : Forest
+    pub r : Forest
+    pub from : n ≤ holder n par ω
+    pub known : holder n par ω < n + count u
+    pub inner : insideOf n (holder n par ω) u ≡ o ⋈ group (content d) c₀ r
+    pub isContent : ContentOf d c₀ u n par (holder n par ω) o r
+    pub same : isContent .spot ≡ ω
+
+  -- Every spot in a node is so.
+  pub spot-of : {u : Forest} (ω : Spot d c₀ u) (n par : ℕ) → InNode ω → SpotOf ω n par
+  spot-of {u} ω n par s = record {
+    o = h .o;
+    r = h .r;
+    from = way-bounds (there 0) .0;
+    known = let b = way-bounds (there 0) in omega arith;
+    inner = way-is (there 0) .1;
+    isContent = record {
+      spot = ω;
+      parent = refl;
+      follows = h .follows;
+      filled = λ v. way-is (h .way 0 v) .1;
+      since = h .since;
+      begins = λ at. h .begins at ∙ ap (λ (q : ℕ). q + width (h .o)) (sym (way-is (there at) .2));
+    };
+    same = refl;
+  }
+    where
+      h : StandsIn ω n par
+      h = stands-in ω n par s
+
+      there : (at : ℕ) → Way (holder n par ω) (h .label) (h .o ⋈ group (content d) c₀ (h .r)) (h .place at) at n u
+      there at = rw (fill-same ω) at (h .way at c₀)
