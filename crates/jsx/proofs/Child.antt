@@ -28,17 +28,13 @@ use Rattle.jsx.specs.Text.{inText, text}
 use Rattle.jsx.specs.Braces.{childBracesIn, emptyBraces, spread, container}
 use Rattle.jsx.specs.Expression.{Inner}
 use Rattle.jsx.specs.Element.{child, children, fragmentIn, namedIn, elementIn, pairedOrNot}
+use Rattle.jsx.specs.Compose.{textLabel}
 use Rattle.jsx.specs.Depth.{elementTooDeep, noLevel, level, within}
 use Rattle.jsx.proofs.Goes.{within-goes}
 use Rattle.jsx.proofs.Paired.{wellPaired}
 use Rattle.jsx.proofs.Shape.{contentOf, closer, L, pass-near, pass-goes, within-flow}
 
 -- ---- texts
-
--- The label of a text.
-unfoldable pub textLabel : Label → Bool
-textLabel (node k x) = eqb k Kind.text
-textLabel (content d) = false
 
 abbrev pub textNode : Forest → Forest → Forest
 textNode c u = group (node Kind.text 0) c u

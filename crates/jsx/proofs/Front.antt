@@ -23,11 +23,12 @@ use Rattle.rules.proofs.Joined.{meet, join, meet-right, join-left}
 use Rattle.jsx.specs.Kind as Kind
 use Rattle.jsx.specs.Text.{inText}
 use Rattle.jsx.specs.Element.{child}
+use Rattle.jsx.specs.Compose.{textLabel}
 use Rattle.jsx.specs.Depth.{within}
 use Rattle.jsx.proofs.Pieces.{anyByte, anyNode}
 use Rattle.jsx.proofs.Paired.{wellPaired}
 use Rattle.jsx.proofs.Shape.{contentOf, closer}
-use Rattle.jsx.proofs.Child.{textLabel, textNode, inner, text-in, tbody, TextByte, tstop, tstep, text-byte, byte-step, byte-stop, text-ends, OneNode, cbody, Child, ends, aText, other, child-of, text-child, end-stop}
+use Rattle.jsx.proofs.Child.{textNode, inner, text-in, tbody, TextByte, tstop, tstep, text-byte, byte-step, byte-stop, text-ends, OneNode, cbody, Child, ends, aText, other, child-of, text-child, end-stop}
 
 -- The bytes of a text: no more is looked at than the byte behind them.
 texts-flow : Flow contentOf anyByte anyNode near (many inner) near near

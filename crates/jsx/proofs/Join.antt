@@ -11,25 +11,26 @@ use Rattle.rules.specs.Parse.{Answer, got, byteAt, repeat, parse, parseAll}
 use Rattle.rules.specs.Record.{rowWords, count, records}
 use Rattle.rules.proofs.Run.{wide-got}
 use Rattle.rules.proofs.Got.{trouble-got, false-true}
-use Rattle.rules.proofs.Ends.{top-got, Turn, last, goon, turn}
+use Rattle.rules.proofs.Ends.{top-got, Turn, last, goon, turn, turn-last}
 use Rattle.rules.proofs.Agree.{Plain, byte-end}
 use Rattle.rules.proofs.Moved.{moved, beyond}
-use Rattle.rules.proofs.Joined.{join, meets, lastEnds, firstEnd, Bare, records-apart, records-met, count-apart, count-met}
+use Rattle.rules.proofs.Joined.{meets, lastEnds, firstEnd, Bare, records-apart, records-met, count-apart, count-met}
 use Rattle.jsx.specs.Kind as Kind
 use Rattle.jsx.specs.Element.{children}
+use Rattle.jsx.specs.Compose.{textLabel, joined, rowsOf}
 use Rattle.jsx.specs.Depth.{within}
 use Rattle.jsx.specs.Reading.{Limits, run}
 use Rattle.jsx.specs.Table.{Outcome, missing, accepted, holds, check, read}
-use Rattle.jsx.proofs.Child.{textLabel, tbody, TextByte, tstop, tstep, text-byte, cbody, Child, ends, aText, other, child-of}
-use Rattle.jsx.proofs.Pieces.{Good, good-join}
-use Rattle.jsx.proofs.JoinRead.{Reads, run-of, join-reads}
+use Rattle.jsx.proofs.Child.{end-stop, tbody, TextByte, tstop, tstep, text-byte, cbody, Child, ends, aText, other, child-of}
+use Rattle.jsx.proofs.Pieces.{Good, good-join, good-empty}
+use Rattle.jsx.proofs.JoinRead.{Reads, run-of, run-is, join-reads}
 use Rattle.jsx.proofs.Few.{run-few}
 use Rattle.jsx.proofs.Accepted.{Accepted, run-proper, check-zero, accepted-check, rows-read}
 
 -- ---- of readings
 
 -- The joined run is accepted, and read as the two readings joined.
-pub runs-join : (l : Limits) (x y : List ℕ) → Plain x → {u v : Forest} → Accepted l run x u → Accepted l run y v → length (x ++ y) ≤ l .bytes → Accepted l run (x ++ y) (join textLabel u v)
+pub runs-join : (l : Limits) (x y : List ℕ) → Plain x → {u v : Forest} → Accepted l run x u → Accepted l run y v → length (x ++ y) ≤ l .bytes → Accepted l run (x ++ y) (joined u v)
 runs-join l x y px {u} {v} ax ay h = record { short = h; good = good-join x y px (ax .good) (ay .good); reads = join-reads (l .depth) x y px u v (ax .reads) (ay .reads) }
 
 -- The same of the numbers that the check gives.
@@ -40,11 +41,16 @@ checks-join l x y px hx hy h =
     let ay = check-zero l run y run-proper hy in
     ap (λ (r : Outcome). r .number) (accepted-check l run (x ++ y) (runs-join l x y px (ax .1) (ay .1) h))
 
--- ---- of tables
+-- The empty run is accepted, with no record; so it may stand on either side, and in the place of any content.
+pub empty-run : (l : Limits) → Accepted l run [] nil
+unfolding children parse
+empty-run l = record {
+  short = omega arith;
+  good = good-empty;
+  reads = run-is (l .depth) [] nil 0 (turn-last (cbody [] 1 0 (l .depth)) 0 0 (end-stop [] 1 0 (l .depth) 0 refl)) refl;
+}
 
--- The rows of a reading, as a read writes them.
-abbrev pub rowsOf : Forest → List ℕ
-rowsOf u = records 0 0 missing u
+-- ---- of tables
 
 -- A run is read to its last byte.
 pub run-width : (l : Limits) (x : List ℕ) → Plain x → {u : Forest} → Accepted l run x u → width u ≡ length x
@@ -109,19 +115,19 @@ module _ (l : Limits) (small : l .bytes ≤ 1_048_576) (x y : List ℕ) (px : Pl
       omega arith
 
   -- No text meets a text: the first's rows, then the second's, places moved by the first's length, record numbers by the first's count; a missing parent stays missing.
-  pub rows-apart : meets textLabel u v ≡ false → rowsOf (join textLabel u v) ≡ rowsOf u ++ moved (length x) (count u) missing missing (rowsOf v)
+  pub rows-apart : meets textLabel u v ≡ false → rowsOf (joined u v) ≡ rowsOf u ++ moved (length x) (count u) missing missing (rowsOf v)
   rows-apart m = records-apart textLabel u v 0 0 missing m (beyond 0 (count v) few) ∙ ap (λ (n : ℕ). rowsOf u ++ moved n (count u) missing missing (rowsOf v)) (run-width l x px ax)
 
   -- A text meets a text: the first's last row ends where the second's first row ends, moved along; then the second's other rows, places moved by the first's length,
   -- record numbers by one less than the first's count.
   pub rows-met : meets textLabel u v ≡ true
-      → rowsOf (join textLabel u v) ≡ lastEnds (length x + firstEnd (rowsOf v)) (rowsOf u) ++ moved (length x) (count u - 1) missing missing (drop rowWords (rowsOf v))
+      → rowsOf (joined u v) ≡ lastEnds (length x + firstEnd (rowsOf v)) (rowsOf u) ++ moved (length x) (count u - 1) missing missing (drop rowWords (rowsOf v))
   unfolding textLabel
   rows-met m =
       records-met textLabel (λ d. refl) u v 0 0 missing m (reads-bare (l .depth) x u (ax .reads)) (reads-bare (l .depth) y v (ay .reads)) (beyond 0 (count v) few)
       ∙ ap (λ (n : ℕ). lastEnds (n + firstEnd (rowsOf v)) (rowsOf u) ++ moved n (count u - 1) missing missing (drop rowWords (rowsOf v))) (run-width l x px ax)
 
-  module _ (t t₁ t₂ : List ℕ) (room : count (join textLabel u v) ≤ holds t) (room₁ : count u ≤ holds t₁) (room₂ : count v ≤ holds t₂) where
+  module _ (t t₁ t₂ : List ℕ) (room : count (joined u v) ≤ holds t) (room₁ : count u ≤ holds t₁) (room₂ : count v ≤ holds t₂) where
     -- What a read leaves in a table, of each run and of the joined one.
     abbrev first : List ℕ
     first = take (rowWords * count u) (read l run x t₁ .table)
@@ -130,9 +136,9 @@ module _ (l : Limits) (small : l .bytes ≤ 1_048_576) (x y : List ℕ) (px : Pl
     second = take (rowWords * count v) (read l run y t₂ .table)
 
     abbrev both : List ℕ
-    both = take (rowWords * count (join textLabel u v)) (read l run (x ++ y) t .table)
+    both = take (rowWords * count (joined u v)) (read l run (x ++ y) t .table)
 
-    both-rows : both ≡ rowsOf (join textLabel u v)
+    both-rows : both ≡ rowsOf (joined u v)
     both-rows = rows-read l run (x ++ y) (runs-join l x y px ax ay together) t room
 
     first-rows : first ≡ rowsOf u
@@ -141,12 +147,13 @@ module _ (l : Limits) (small : l .bytes ≤ 1_048_576) (x y : List ℕ) (px : Pl
     second-rows : second ≡ rowsOf v
     second-rows = rows-read l run y ay t₂ room₂
 
-    pub tables-apart : meets textLabel u v ≡ false → (both ≡ first ++ moved (length x) (count u) missing missing second) × (count (join textLabel u v) ≡ count u + count v)
+    pub tables-apart : meets textLabel u v ≡ false → (both ≡ first ++ moved (length x) (count u) missing missing second) × (count (joined u v) ≡ count u + count v)
     tables-apart m = (both-rows ∙ rows-apart m ∙ (λ i. sym first-rows i ++ moved (length x) (count u) missing missing (sym second-rows i)), count-apart textLabel u v m)
 
     pub tables-met : meets textLabel u v ≡ true
-        → (both ≡ lastEnds (length x + firstEnd second) first ++ moved (length x) (count u - 1) missing missing (drop rowWords second)) × (count (join textLabel u v) + 1 ≡ count u + count v)
+        → (both ≡ lastEnds (length x + firstEnd second) first ++ moved (length x) (count u - 1) missing missing (drop rowWords second)) × (count (joined u v) + 1 ≡ count u + count v)
     unfolding textLabel
-    tables-met m =
-        (both-rows ∙ rows-met m ∙ (λ i. lastEnds (length x + firstEnd (sym second-rows i)) (sym first-rows i) ++ moved (length x) (count u - 1) missing missing (drop rowWords (sym second-rows i))),
-         count-met textLabel (λ d. refl) u v m)
+    tables-met m = (
+      both-rows ∙ rows-met m ∙ (λ i. lastEnds (length x + firstEnd (sym second-rows i)) (sym first-rows i) ++ moved (length x) (count u - 1) missing missing (drop rowWords (sym second-rows i))),
+      count-met textLabel (λ d. refl) u v m,
+    )

@@ -21,9 +21,10 @@ use Rattle.rules.proofs.Joined.{join}
 use Rattle.jsx.specs.Refusal.{unexpected}
 use Rattle.jsx.specs.Byte.{end}
 use Rattle.jsx.specs.Element.{child, children}
+use Rattle.jsx.specs.Compose.{textLabel}
 use Rattle.jsx.specs.Depth.{within}
 use Rattle.jsx.specs.Reading.{run}
-use Rattle.jsx.proofs.Child.{textLabel, cbody}
+use Rattle.jsx.proofs.Child.{cbody}
 use Rattle.jsx.proofs.Front.{front}
 
 -- The rule reads the input, from its first byte on, as that forest.

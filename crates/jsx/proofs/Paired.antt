@@ -43,23 +43,17 @@ plain-fits k t n = unpaired (λ o. node k 0) t (λ o. n)
 pub other-fits : (t : Rule) → Fitting wellPaired (λ o. node Kind.otherPart (dashed (direct o))) t
 other-fits t = unpaired (λ o. node Kind.otherPart (dashed (direct o))) t (λ o. refl)
 
+unpaired-pick : (a : Bool) (l m : Label) → pairedLabel l ≡ false → pairedLabel m ≡ false → pairedLabel (pick a l m) ≡ false
+unpaired-pick true l m x y = x
+unpaired-pick false l m x y = y
+
 pub one-fits : (t : Rule) → Fitting wellPaired (λ o. oneName (direct o)) t
 unfolding oneName
-one-fits t = unpaired (λ o. oneName (direct o)) t (λ o. by (has "-" (direct o)) (firstIs opensReference (direct o)) (isThis (direct o)))
-  where
-    by : (a b c : Bool) → pairedLabel (pick a (node Kind.identifier 1) (pick b (node Kind.reference 0) (pick c (node Kind.this 0) (node Kind.identifier 0)))) ≡ false
-    by true b c = refl
-    by false true c = refl
-    by false false true = refl
-    by false false false = refl
+one-fits t = unpaired (λ o. oneName (direct o)) t (λ o. unpaired-pick (has "-" (direct o)) _ _ refl (unpaired-pick (firstIs opensReference (direct o)) _ _ refl (unpaired-pick (isThis (direct o)) _ _ refl refl)))
 
 pub object-fits : (t : Rule) → Fitting wellPaired (λ o. objectName (direct o)) t
 unfolding objectName
-object-fits t = unpaired (λ o. objectName (direct o)) t (λ o. by (isThis (direct o)) (dashed (direct o)))
-  where
-    by : (a : Bool) (x : ℕ) → pairedLabel (pick a (node Kind.this 0) (node Kind.reference x)) ≡ false
-    by true x = refl
-    by false x = refl
+object-fits t = unpaired (λ o. objectName (direct o)) t (λ o. unpaired-pick (isThis (direct o)) _ _ refl refl)
 
 module _ (d : ℕ) (n : Inner) where
   close-node : (s : List ℕ) (F e at : ℕ) {b : Bool} {r : Forest} {p : ℕ} → parse s F closeTag e at ≡ got b r p → (z : Forest) × (r ≡ group (node Kind.closingTag 0) z nil)

@@ -20,6 +20,7 @@ use Rattle.rules.proofs.Agree.{Plain, byte-end}
 use Rattle.rules.proofs.Spots.{Spot, fill, start, fits}
 use Rattle.rules.proofs.Flow.{Mode, near, pend}
 use Rattle.rules.proofs.Found.{Content, found}
+use Rattle.rules.proofs.Deeper.{deepen, records-deepen}
 use Rattle.rules.proofs.Formed.{Formed, formed}
 use Rattle.rules.proofs.Rows.{eachRow}
 use Rattle.rules.proofs.Moved.{moved, beyond}
@@ -30,6 +31,7 @@ use Rattle.jsx.specs.Kind as Kind
 use Rattle.jsx.specs.Byte.{is, end}
 use Rattle.jsx.specs.Blank.{pass}
 use Rattle.jsx.specs.Element.{children}
+use Rattle.jsx.specs.Compose.{rowsOf, put, withDepth}
 use Rattle.jsx.specs.Depth.{within}
 use Rattle.jsx.specs.Reading.{Limits, stage, run}
 use Rattle.jsx.specs.Table.{Outcome, missing, accepted, check, word}
@@ -39,17 +41,9 @@ use Rattle.jsx.proofs.Child.{endOrAngle, cbody, stops-at, stops-before}
 use Rattle.jsx.proofs.Cut.{Cut, at-end, behind-ascii, before-ascii, good-replace}
 use Rattle.jsx.proofs.JoinRead.{Reads}
 use Rattle.jsx.proofs.ReplaceRead.{replace-reads}
+use Rattle.jsx.proofs.Deep.{run-reads-deeper}
 use Rattle.jsx.proofs.Few.{run-few, stage-few}
-use Rattle.jsx.proofs.Join.{rowsOf}
 use Rattle.jsx.proofs.Accepted.{Accepted, Proper, stage-proper, run-proper, check-zero, accepted-check}
-
--- The input with other bytes in the place of a content.
-abbrev pub put : {d : ℕ} {c₀ u : Forest} → (s : List ℕ) → Spot d c₀ u → (y : List ℕ) → List ℕ
-put {c₀ = c₀} s ω y = take (start ω) s ++ (y ++ drop (start ω + width c₀) s)
-
--- The limits with the depth that is left inside a content: a run keeps the depth limit there if it is accepted with these.
-abbrev pub withDepth : Limits → ℕ → Limits
-withDepth l d = record { bytes = l .bytes; depth = d }
 
 -- ---- where a content may be cut out
 
@@ -263,3 +257,13 @@ module _ (reading : ℕ → Rule) (rd : Readable reading) (l : Limits) (small : 
     where
       few-rows : Reads (run (meant .depth)) y v → length y ≤ l .bytes → count v ≤ missing
       few-rows r q = unfold Reads in (let n = run-few (meant .depth) y (r .1) in omega arith)
+
+-- ---- depth
+
+-- A run accepted with less depth left is accepted with more, with the same rows; only the depths that its reading notes at contents grow.
+pub run-deeper-accepted : (l : Limits) (k d : ℕ) (y : List ℕ) {v : Forest} → Accepted (withDepth l d) run y v → Accepted (withDepth l (k + d)) run y (deepen k v)
+unfolding Reads
+run-deeper-accepted l k d y b = record { short = b .short; good = b .good; reads = (b .reads .0, run-reads-deeper k d y (b .reads .1)) }
+
+pub rows-deeper : (k : ℕ) (v : Forest) → rowsOf (deepen k v) ≡ rowsOf v
+rows-deeper k v = records-deepen k v 0 0 missing

@@ -20,11 +20,12 @@ use Rattle.rules.proofs.Found.{Content, found}
 use Rattle.rules.proofs.Hole.{refill}
 use Rattle.rules.proofs.Joined.{join-nil}
 use Rattle.jsx.specs.Element.{child, children}
+use Rattle.jsx.specs.Compose.{textLabel}
 use Rattle.jsx.specs.Depth.{within}
 use Rattle.jsx.specs.Reading.{run}
 use Rattle.jsx.proofs.Paired.{wellPaired}
 use Rattle.jsx.proofs.Shape.{contentOf, closer, L}
-use Rattle.jsx.proofs.Child.{textLabel, cbody, stops-at}
+use Rattle.jsx.proofs.Child.{cbody, stops-at}
 use Rattle.jsx.proofs.Front.{front}
 use Rattle.jsx.proofs.JoinRead.{Reads, run-of, moved}
 

@@ -16,3 +16,4 @@ pub mod Depth
 pub mod Reading
 pub mod Table
 pub mod Program
+pub mod Compose

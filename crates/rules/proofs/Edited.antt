@@ -15,24 +15,7 @@ use Rattle.rules.proofs.Forests.{records-same, length-records}
 use Rattle.rules.proofs.Spots.{Spot, here, under, past, skip, fill, start, fill-same, fits, width-fill, count-fill}
 use Rattle.rules.proofs.Rows.{Row, words, put, eachRow, Table, table-append, table-records, row-same, eachRow-append}
 use Rattle.rules.proofs.Moved.{Foreign, changed, shifted, moved, records-from-zero}
-
--- ---- how a row changes where the content c₀, whose first record has the number n₀, is replaced by v
-
--- A place or a number past something of the size s that has got the size t.
-abbrev pub along : (s t x : ℕ) → ℕ
-along s t x = x + t - s
-
--- A row in front of the content. It is an ancestor's if its `after` is past n₀: then it ends further on. Any other stays.
-unfoldable pub widened : (n₀ : ℕ) (c₀ v : Forest) → Row → Row
-widened n₀ c₀ v (words k a z p n x) = pick (ltb n₀ n) (words k a (along (width c₀) (width v) z) p (along (count c₀) (count v) n) x) (words k a z p n x)
-
--- The parent of a row behind the content: a record behind the content has a new number. Any other stays, and so does the outermost parent par.
-unfoldable pub pushedParent : (n₀ par : ℕ) (c₀ v : Forest) (p : ℕ) → ℕ
-pushedParent n₀ par c₀ v p = pick (ltb p (n₀ + count c₀)) p (pick (eqb p par) p (along (count c₀) (count v) p))
-
--- A row behind the content.
-unfoldable pub pushed : (n₀ par : ℕ) (c₀ v : Forest) → Row → Row
-pushed n₀ par c₀ v (words k a z p n x) = words k (along (width c₀) (width v) a) (along (width c₀) (width v) z) (pushedParent n₀ par c₀ v p) (along (count c₀) (count v) n) x
+unfoldable pub use Rattle.rules.specs.Replaced.{along, widened, pushedParent, pushed, first, holder}
 
 widened-ancestor : (n₀ : ℕ) (c₀ v : Forest) (k a z p n x : ℕ) → n₀ < n → widened n₀ c₀ v (words k a z p n x) ≡ words k a (along (width c₀) (width v) z) p (along (count c₀) (count v) n) x
 unfolding widened
@@ -97,24 +80,6 @@ preceded c f b m e q = (λ i. c ++ e i) ∙ (λ i. c ++ (f ++ (q i ++ b))) ∙ s
 -- ---- where the content's records stand
 
 module _ {d : ℕ} {c₀ : Forest} where
-  -- How many records stand before the content.
-  unfoldable pub first : {u : Forest} → Spot d c₀ u → ℕ
-  first (here p q) = 0
-  first (under {l = node k x} ω) = 1 + first ω
-  first (under {l = content d′} ω) = first ω
-  first (past {l = node k x} {c = c} ω) = 1 + count c + first ω
-  first (past {l = content d′} {c = c} ω) = count c + first ω
-  first (skip ω) = first ω
-
-  -- The parent of the content's outermost records, in a forest under par whose first record is n.
-  unfoldable pub holder : {u : Forest} (n par : ℕ) → Spot d c₀ u → ℕ
-  holder n par (here p q) = par
-  holder n par (under {l = node k x} ω) = holder (n + 1) n ω
-  holder n par (under {l = content d′} ω) = holder n par ω
-  holder n par (past {l = node k x} {c = c} ω) = holder (n + (1 + count c)) par ω
-  holder n par (past {l = content d′} {c = c} ω) = holder (n + count c) par ω
-  holder n par (skip ω) = holder n par ω
-
   -- At least one record follows the content in the group that holds it.
   unfoldable pub Followed : {u : Forest} → Spot d c₀ u → Type 0
   Followed (here {v = v} p q) = 1 ≤ count v

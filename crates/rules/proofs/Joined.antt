@@ -11,29 +11,12 @@ use Rattle.rules.specs.Record.{rowWords, row, count, records}
 use Rattle.rules.proofs.Forests.{width-behind, count-behind, records-join, records-same}
 use Rattle.rules.proofs.Rows.{Table, none, more, table-records, row-same}
 use Rattle.rules.proofs.Moved.{Foreign, moved, records-moved}
+unfoldable pub use Rattle.rules.specs.Joined.{lastEnds, firstEnd, meet, join, endsInText, beginsWithText, meets}
 
 -- Two tests that both hold.
 both : (a b : Bool) → pick a b false ≡ true → (a ≡ true) × (b ≡ true)
 both true b e = (refl, e)
 both false b e = let z : _≡_ {A = ℕ} 0 1 = cc in absurd (omega arith)
-
--- A table whose last row ends at z.
-unfoldable pub lastEnds : (z : ℕ) → List ℕ → List ℕ
-lastEnds z [] = []
-lastEnds z (k ∷ []) = k ∷ []
-lastEnds z (k ∷ a ∷ []) = k ∷ a ∷ []
-lastEnds z (k ∷ a ∷ e ∷ []) = k ∷ a ∷ e ∷ []
-lastEnds z (k ∷ a ∷ e ∷ p ∷ []) = k ∷ a ∷ e ∷ p ∷ []
-lastEnds z (k ∷ a ∷ e ∷ p ∷ n ∷ []) = k ∷ a ∷ e ∷ p ∷ n ∷ []
-lastEnds z (k ∷ a ∷ e ∷ p ∷ n ∷ x ∷ []) = row k a z p n x []
-lastEnds z (k ∷ a ∷ e ∷ p ∷ n ∷ x ∷ y ∷ rest) = row k a e p n x (lastEnds z (y ∷ rest))
-
--- Where a table's first row ends.
-unfoldable pub firstEnd : List ℕ → ℕ
-firstEnd [] = 0
-firstEnd (k ∷ []) = 0
-firstEnd (k ∷ a ∷ []) = 0
-firstEnd (k ∷ a ∷ z ∷ rest) = z
 
 last-ends : {s : List ℕ} → Table s → (z k a e p n x : ℕ) → lastEnds z (s ++ row k a e p n x []) ≡ s ++ row k a z p n x []
 unfolding lastEnds
@@ -109,39 +92,7 @@ module _ (w : Forest) (k x : ℕ) (c : Forest) (k′ x′ : ℕ) (c′ v : Fores
           ∙ records-same v refl (omega (arith, count-one)) refl
 
 module _ (isText : Label → Bool) where
-  -- A group in front of a forest; a text in front of a text is one text.
-  unfoldable pub meet : Label → Forest → Forest → Forest
-  meet l c nil = group l c nil
-  meet l c (byte b v) = group l c (byte b v)
-  meet l c (group l′ c′ v) = pick (pick (isText l) (isText l′) false) (group l (c ⋈ c′) v) (group l c (group l′ c′ v))
-
-  -- One forest behind the other.
-  unfoldable pub join : Forest → Forest → Forest
-  join nil v = v
-  join (byte b u) v = byte b (join u v)
-  join (group l c nil) v = meet l c v
-  join (group l c (byte b u)) v = group l c (join (byte b u) v)
-  join (group l c (group l′ c′ u)) v = group l c (join (group l′ c′ u) v)
-
-  -- Whether its last thing is a text.
-  unfoldable pub endsInText : Forest → Bool
-  endsInText nil = false
-  endsInText (byte b u) = endsInText u
-  endsInText (group l c nil) = isText l
-  endsInText (group l c (byte b u)) = endsInText (byte b u)
-  endsInText (group l c (group l′ c′ u)) = endsInText (group l′ c′ u)
-
-  -- Whether its first thing is a text.
-  unfoldable pub beginsWithText : Forest → Bool
-  beginsWithText nil = false
-  beginsWithText (byte b u) = false
-  beginsWithText (group l c u) = isText l
-
-  -- Whether a text meets a text.
-  unfoldable pub meets : Forest → Forest → Bool
-  meets u v = pick (endsInText u) (beginsWithText v) false
-
-  pub join-nil : (u : Forest) → join u nil ≡ u
+  pub join-nil : (u : Forest) → join isText u nil ≡ u
   unfolding join meet
   join-nil nil = refl
   join-nil (byte b u) = ap (byte b) (join-nil u)
@@ -150,14 +101,14 @@ module _ (isText : Label → Bool) where
   join-nil (group l c (group l′ c′ u)) = ap (group l c) (join-nil (group l′ c′ u))
 
   -- What is no text stays apart from what follows.
-  pub meet-left : (l : Label) (c v : Forest) → isText l ≡ false → meet l c v ≡ group l c v
+  pub meet-left : (l : Label) (c v : Forest) → isText l ≡ false → meet isText l c v ≡ group l c v
   unfolding meet
   meet-left l c nil h = refl
   meet-left l c (byte b v) h = refl
   meet-left l c (group l′ c′ v) h = rw h
 
   -- A text stays apart from what is no text.
-  pub meet-right : (l : Label) (c : Forest) (l′ : Label) (c′ v : Forest) → isText l′ ≡ false → meet l c (group l′ c′ v) ≡ group l c (group l′ c′ v)
+  pub meet-right : (l : Label) (c : Forest) (l′ : Label) (c′ v : Forest) → isText l′ ≡ false → meet isText l c (group l′ c′ v) ≡ group l c (group l′ c′ v)
   unfolding meet
   meet-right l c l′ c′ v h = go (isText l)
     where
@@ -166,7 +117,7 @@ module _ (isText : Label → Bool) where
       go false = refl
 
   -- Behind what is no text the join goes on.
-  pub join-left : (l : Label) (c u v : Forest) → isText l ≡ false → join (group l c u) v ≡ group l c (join u v)
+  pub join-left : (l : Label) (c u v : Forest) → isText l ≡ false → join isText (group l c u) v ≡ group l c (join isText u v)
   unfolding join
   join-left l c nil v h = meet-left l c v h
   join-left l c (byte b u) v h = refl
@@ -174,7 +125,7 @@ module _ (isText : Label → Bool) where
 
   -- A text at the end and a text at the start become one.
   pub join-texts : (u : Forest) (l : Label) (c : Forest) (l′ : Label) (c′ v : Forest) → isText l ≡ true → isText l′ ≡ true
-      → join (u ⋈ group l c nil) (group l′ c′ v) ≡ u ⋈ group l (c ⋈ c′) v
+      → join isText (u ⋈ group l c nil) (group l′ c′ v) ≡ u ⋈ group l (c ⋈ c′) v
   unfolding join meet _⋈_
   join-texts nil l c l′ c′ v h h′ = rw (h, h′)
   join-texts (byte b u) l c l′ c′ v h h′ = ap (byte b) (join-texts u l c l′ c′ v h h′)
@@ -183,7 +134,7 @@ module _ (isText : Label → Bool) where
   join-texts (group k e (group k′ e′ u)) l c l′ c′ v h h′ = ap (group k e) (join-texts (group k′ e′ u) l c l′ c′ v h h′)
 
   -- Where no text meets a text, one stands behind the other.
-  pub join-apart : (u v : Forest) → meets u v ≡ false → join u v ≡ u ⋈ v
+  pub join-apart : (u v : Forest) → meets isText u v ≡ false → join isText u v ≡ u ⋈ v
   unfolding join meet _⋈_ endsInText beginsWithText meets
   join-apart nil v h = refl
   join-apart (byte b u) v h = ap (byte b) (join-apart u v h)
@@ -205,18 +156,18 @@ module _ (isText : Label → Bool) where
     pub right : v ≡ group label′ text′ later
     pub isOne : isText label ≡ true
     pub isOther : isText label′ ≡ true
-    pub joined : join u v ≡ before ⋈ group label (text ⋈ text′) later
+    pub joined : join isText u v ≡ before ⋈ group label (text ⋈ text′) later
 
   met-byte : (b : ℕ) {u v : Forest} → Met u v → Met (byte b u) v
   unfolding join _⋈_
   met-byte b h = record { before = byte b (h .before); label = h .label; text = h .text; label′ = h .label′; text′ = h .text′; later = h .later; left = ap (byte b) (h .left); right = h .right; isOne = h .isOne; isOther = h .isOther; joined = ap (byte b) (h .joined) }
 
-  met-group : (l : Label) (c : Forest) {u v : Forest} → join (group l c u) v ≡ group l c (join u v) → Met u v → Met (group l c u) v
+  met-group : (l : Label) (c : Forest) {u v : Forest} → join isText (group l c u) v ≡ group l c (join isText u v) → Met u v → Met (group l c u) v
   unfolding _⋈_
   met-group l c e h = record { before = group l c (h .before); label = h .label; text = h .text; label′ = h .label′; text′ = h .text′; later = h .later; left = ap (group l c) (h .left); right = h .right; isOne = h .isOne; isOther = h .isOther; joined = e ∙ ap (group l c) (h .joined) }
 
   -- Where a text meets a text, they become one.
-  pub join-met : (u v : Forest) → meets u v ≡ true → Met u v
+  pub join-met : (u v : Forest) → meets isText u v ≡ true → Met u v
   unfolding join meet _⋈_ endsInText beginsWithText meets
   join-met nil v h = let z : _≡_ {A = ℕ} 0 1 = cc in absurd (omega arith)
   join-met (byte b u) v h = met-byte b (join-met u v h)
@@ -228,22 +179,22 @@ module _ (isText : Label → Bool) where
 
   -- Two cases are all: a text meets a text, or not.
   pub data Joining (u v : Forest) : Type 0 where
-    apart : meets u v ≡ false → join u v ≡ u ⋈ v → Joining u v
-    met : meets u v ≡ true → Met u v → Joining u v
+    apart : meets isText u v ≡ false → join isText u v ≡ u ⋈ v → Joining u v
+    met : meets isText u v ≡ true → Met u v → Joining u v
 
   pub joining : (u v : Forest) → Joining u v
-  joining u v = go (meets u v) refl
+  joining u v = go (meets isText u v) refl
     where
-      go : (b : Bool) → meets u v ≡ b → Joining u v
+      go : (b : Bool) → meets isText u v ≡ b → Joining u v
       go true e = met e (join-met u v e)
       go false e = apart e (join-apart u v e)
 
   -- Widths add up.
-  pub width-join : (u v : Forest) → width (join u v) ≡ width u + width v
+  pub width-join : (u v : Forest) → width (join isText u v) ≡ width u + width v
   unfolding width
   width-join u v = go (joining u v)
     where
-      go : Joining u v → width (join u v) ≡ width u + width v
+      go : Joining u v → width (join isText u v) ≡ width u + width v
       go (apart e h) = ap width h ∙ width-behind u v
       go (met e h) = omega (
         arith,
@@ -256,11 +207,11 @@ module _ (isText : Label → Bool) where
       )
 
   -- Counts add up where no text meets a text.
-  pub count-apart : (u v : Forest) → meets u v ≡ false → count (join u v) ≡ count u + count v
+  pub count-apart : (u v : Forest) → meets isText u v ≡ false → count (join isText u v) ≡ count u + count v
   count-apart u v e = ap count (join-apart u v e) ∙ count-behind u v
 
   -- Where no text meets a text: the rows of the one, then those of the other, moved behind the one.
-  pub records-apart : (u v : Forest) (at n par : ℕ) → meets u v ≡ false → Foreign par n (count v) → records at n par (join u v) ≡ records at n par u ++ moved (width u) (count u) par par (records at n par v)
+  pub records-apart : (u v : Forest) (at n par : ℕ) → meets isText u v ≡ false → Foreign par n (count v) → records at n par (join isText u v) ≡ records at n par u ++ moved (width u) (count u) par par (records at n par v)
   records-apart u v at n par e o =
       ap (records at n par) (join-apart u v e) ∙ records-join u v at n par
       ∙ ap (λ (t : List ℕ). records at n par u ++ t) (records-same v (omega arith) (omega arith) refl ∙ records-moved (width u) (count u) par par v at n o)
@@ -289,7 +240,7 @@ module _ (isText : Label → Bool) where
     count-text (content d) c u e = let h = nodes d in let z : _≡_ {A = ℕ} 0 1 = cc in absurd (omega arith)
 
     -- Where a text meets a text there is one record less.
-    pub count-met : (u v : Forest) → meets u v ≡ true → count (join u v) + 1 ≡ count u + count v
+    pub count-met : (u v : Forest) → meets isText u v ≡ true → count (join isText u v) + 1 ≡ count u + count v
     unfolding count
     count-met u v e = let h = join-met u v e in omega (
       arith,
@@ -305,12 +256,12 @@ module _ (isText : Label → Bool) where
     )
 
     rows-met : {u v : Forest} (h : Met u v) (at n par : ℕ) → count (h .text) ≡ 0 → count (h .text′) ≡ 0 → Foreign par n (count v)
-        → records at n par (join u v) ≡ lastEnds (width u + firstEnd (records at n par v)) (records at n par u) ++ moved (width u) (count u - 1) par par (drop rowWords (records at n par v))
+        → records at n par (join isText u v) ≡ lastEnds (width u + firstEnd (records at n par v)) (records at n par u) ++ moved (width u) (count u - 1) par par (drop rowWords (records at n par v))
     unfolding one other
     rows-met {u} {v} h at n par z z′ o = go (text-node (h .label) (h .isOne)) (text-node (h .label′) (h .isOther))
       where
         Goal : Forest → Forest → Type 0
-        Goal u′ v′ = records at n par (join u v) ≡ lastEnds (width u′ + firstEnd (records at n par v′)) (records at n par u′) ++ moved (width u′) (count u′ - 1) par par (drop rowWords (records at n par v′))
+        Goal u′ v′ = records at n par (join isText u v) ≡ lastEnds (width u′ + firstEnd (records at n par v′)) (records at n par u′) ++ moved (width u′) (count u′ - 1) par par (drop rowWords (records at n par v′))
 
         go : (k : ℕ) × (x : ℕ) × (h .label ≡ node k x) → (k′ : ℕ) × (x′ : ℕ) × (h .label′ ≡ node k′ x′) → Goal u v
         go (k, x, e) (k′, x′, e′) =
@@ -321,8 +272,8 @@ module _ (isText : Label → Bool) where
             ∙ merged (h .before) k x (h .text) k′ x′ (h .text′) (h .later) at n par z z′ (subst (λ (w : Forest). Foreign par n (count w)) (sym right) o)))
 
     -- Where a text meets a text, with no nodes inside them: the rows of the one, the last with the end of the other's first; then the other's but its first, moved behind.
-    pub records-met : (u v : Forest) (at n par : ℕ) → meets u v ≡ true → Bare u → Bare v → Foreign par n (count v)
-        → records at n par (join u v) ≡ lastEnds (width u + firstEnd (records at n par v)) (records at n par u) ++ moved (width u) (count u - 1) par par (drop rowWords (records at n par v))
+    pub records-met : (u v : Forest) (at n par : ℕ) → meets isText u v ≡ true → Bare u → Bare v → Foreign par n (count v)
+        → records at n par (join isText u v) ≡ lastEnds (width u + firstEnd (records at n par v)) (records at n par u) ++ moved (width u) (count u - 1) par par (drop rowWords (records at n par v))
     unfolding Bare
     records-met u v at n par e bu bv o = let h = join-met u v e in
         rows-met h at n par (bare-last (h .before) (h .label) (h .text) nil (subst Bare (h .left) bu) (h .isOne)) (subst Bare (h .right) bv .0 (h .isOther)) o

@@ -11,6 +11,7 @@ use Rattle.rules.specs.Parse.{pick}
 use Rattle.rules.specs.Record.{count, records}
 use Rattle.rules.proofs.Forests.{records-same}
 use Rattle.rules.proofs.Rows.{Row, words, eachRow, Table, table-records, row-same, eachRow-append}
+unfoldable pub use Rattle.rules.specs.Moved.{reparent, movedRow, moved}
 
 -- par is none of the m records from n on.
 abbrev pub Foreign : (par n m : ℕ) → Type 0
@@ -54,18 +55,6 @@ module _ (place number parent : ℕ → ℕ) (A N par : ℕ)
       let later : records (place at + width c) (number n + count c) (parent p) u ≡ eachRow (changed place number parent) (records (at + width c) (n + count c) p u) =
       records-same u (sym (places at (width c) ha)) (sym (numbers n (count c) hn)) refl ∙ shifted u (at + width c) (n + count c) p (omega arith) (omega arith) (λ q l r. o q (omega arith) (omega arith)) in
       (λ i. inner i ++ later i) ∙ sym (eachRow-append (changed place number parent) (table-records c at n p) _)
-
--- The parent of a moved row: the new outermost parent for the old one, else the same record under its new number.
-unfoldable pub reparent : (m par par′ p : ℕ) → ℕ
-reparent m par par′ p = pick (eqb p par) par′ (m + p)
-
--- A row, k bytes and m records further on.
-unfoldable pub movedRow : (k m par par′ : ℕ) → Row → Row
-movedRow k m par par′ (words kind a z p n x) = words kind (k + a) (k + z) (reparent m par par′ p) (m + n) x
-
--- A table, k bytes and m records further on, under par′ where it stood under par.
-unfoldable pub moved : (k m par par′ : ℕ) → List ℕ → List ℕ
-moved k m par par′ = eachRow (movedRow k m par par′)
 
 -- Whole rows and what follows are moved one after the other.
 pub moved-append : (k m par par′ : ℕ) {s : List ℕ} → Table s → (t : List ℕ) → moved k m par par′ (s ++ t) ≡ moved k m par par′ s ++ moved k m par par′ t

@@ -4,24 +4,8 @@ use mathlib.Core.List.{List, [], _∷_, _++_}
 use Prim.Native.Nat.{ℕ, _+_}
 use Rattle.rules.specs.Forest.{node, content, Forest, nil, byte, group, width}
 use Rattle.rules.specs.Record.{row, count, records}
-
--- The six words of a row, by their names.
-pub data Row : Type 0 where
-  words : (kind start end parent after extra : ℕ) → Row
-
--- A row in front of others.
-abbrev pub put : Row → List ℕ → List ℕ
-put (words k a z p n x) rest = row k a z p n x rest
-
--- A table with each row changed by f. Words that make no whole row stay.
-unfoldable pub eachRow : (Row → Row) → List ℕ → List ℕ
-eachRow f [] = []
-eachRow f (k ∷ []) = k ∷ []
-eachRow f (k ∷ a ∷ []) = k ∷ a ∷ []
-eachRow f (k ∷ a ∷ z ∷ []) = k ∷ a ∷ z ∷ []
-eachRow f (k ∷ a ∷ z ∷ p ∷ []) = k ∷ a ∷ z ∷ p ∷ []
-eachRow f (k ∷ a ∷ z ∷ p ∷ n ∷ []) = k ∷ a ∷ z ∷ p ∷ n ∷ []
-eachRow f (k ∷ a ∷ z ∷ p ∷ n ∷ x ∷ rest) = put (f (words k a z p n x)) (eachRow f rest)
+pub use Rattle.rules.specs.Moved.{Row, words, put}
+unfoldable pub use Rattle.rules.specs.Moved.{eachRow}
 
 -- A list of whole rows.
 pub data Table : List ℕ → Type 0 where

@@ -5,29 +5,10 @@ use Prim.Native.Nat.{ℕ, suc, _+_, _≤_}
 use native.Mathlib.Omega.{arith}
 use Rattle.rules.specs.Forest.{Label, node, content, Forest, nil, byte, group, _⋈_, width, direct, inside}
 use Rattle.rules.specs.Record.{count}
-
--- The way to a content c₀ with d levels left inside it.
-pub data Spot (d : ℕ) (c₀ : Forest) : Forest → Type 0 where
-  here : {l : Label} {c v : Forest} → l ≡ content d → c ≡ c₀ → Spot d c₀ (group l c v)
-  under : {l : Label} {c v : Forest} → Spot d c₀ c → Spot d c₀ (group l c v)
-  past : {l : Label} {c v : Forest} → Spot d c₀ v → Spot d c₀ (group l c v)
-  skip : {b : ℕ} {v : Forest} → Spot d c₀ v → Spot d c₀ (byte b v)
+pub use Rattle.rules.specs.Replaced.{Spot, here, under, past, skip}
+unfoldable pub use Rattle.rules.specs.Replaced.{fill, start}
 
 module _ {d : ℕ} {c₀ : Forest} where
-  -- With c₁ in the place of c₀.
-  unfoldable pub fill : {u : Forest} → Spot d c₀ u → Forest → Forest
-  fill (here {l = l} {v = v} p q) c₁ = group l c₁ v
-  fill (under {l = l} {v = v} ω) c₁ = group l (fill ω c₁) v
-  fill (past {l = l} {c = c} ω) c₁ = group l c (fill ω c₁)
-  fill (skip {b = b} ω) c₁ = byte b (fill ω c₁)
-
-  -- How many bytes stand before it.
-  unfoldable pub start : {u : Forest} → Spot d c₀ u → ℕ
-  start (here p q) = 0
-  start (under ω) = start ω
-  start (past {c = c} ω) = width c + start ω
-  start (skip ω) = suc (start ω)
-
   -- The content that stands there, put there, changes nothing.
   pub fill-same : {u : Forest} (ω : Spot d c₀ u) → fill ω c₀ ≡ u
   unfolding fill
