@@ -1,0 +1,189 @@
+-- Laws of answers, bytes and loops, for the proofs of leaves.
+use mathlib.Core.Path.{_≡_, refl, sym, ap, subst, _∙_}
+use mathlib.Core.Bool.{Bool, true, false}
+use mathlib.Core.List.{List, [], _∷_}
+use Prim.Native.Nat.{ℕ, zero, suc, _+_, _≤_, _<_}
+use native.Mathlib.Nat.{not-suc-le-zero, le-of-suc-le-suc}
+use native.Mathlib.Omega.{arith}
+use native.Mathlib.Decide.{decLt}
+use lib.ListN.{length, getD, List·getD-eq-default}
+use lib.Dec.{eqb, ltb}
+use borrow.Author.Tests.{eq-eqb, ne-eqb, eqb-true, lt-ltb}
+use Rattle.rules.specs.Forest.{Forest, nil, byte, _⋈_}
+use Rattle.rules.specs.Rule.{Rule, step, when, seq}
+use Rattle.rules.specs.Parse.{Answer, got, trouble, pick, andThen, behind, byteAt, opens, parse}
+use Rattle.rules.proofs.Run.{goes, on, got-goes}
+use Rattle.rules.proofs.Mark.{any-mark}
+use Rattle.jsx.specs.Byte.{need}
+use Rattle.lex.specs.Contract.{readAt, view, outOf, nothing, goneOn, Leaf, Past}
+use Rattle.lex.specs.declared.Ans.{Ans}
+use Rattle.lex.specs.declared.Ans.the-variants.{Got, No}
+
+-- ---- bytes
+
+-- Within a list the default does not matter.
+pub inside : (l : List ℕ) (i d e : ℕ) → i < length l → getD l i d ≡ getD l i e
+inside [] i d e h = absurd (not-suc-le-zero h)
+inside (x ∷ xs) zero d e h = refl
+inside (x ∷ xs) (suc i) d e h = inside xs i d e (le-of-suc-le-suc h)
+
+-- A byte below 256 stands within the input.
+pub before-end : (s : List ℕ) (i b : ℕ) → byteAt s i ≡ b → b < 256 → i < length s
+before-end s i b e h = go (decLt i (length s))
+  where
+    go : Dec (i < length s) → i < length s
+    go (yes p) = p
+    go (no q) = let z : byteAt s i ≡ 256 = List·getD-eq-default s 256 (omega arith) in omega arith
+
+-- A byte that is not the end's stands within the input.
+pub not-end : (s : List ℕ) (i : ℕ) → (byteAt s i ≡ 256 → ⊥) → i ≤ length s → i < length s
+not-end s i h le = go (decLt i (length s))
+  where
+    go : Dec (i < length s) → i < length s
+    go (yes p) = p
+    go (no q) = absurd (h (List·getD-eq-default s 256 (omega arith)))
+
+-- A test that the end's byte fails.
+pub test-inside : (f : ℕ → Bool) → f 256 ≡ false → (s : List ℕ) (i : ℕ) → f (byteAt s i) ≡ true → i < length s
+test-inside f e s i h = go (decLt i (length s))
+  where
+    go : Dec (i < length s) → i < length s
+    go (yes p) = p
+    go (no q) = let z : byteAt s i ≡ 256 = List·getD-eq-default s 256 (omega arith) in let w : _≡_ {A = ℕ} 0 1 = cc (sym h ∙ ap f z ∙ e) in absurd (omega arith)
+
+-- A byte that the code has read, tested.
+pub byte-is : {r b k : ℕ} → r ≡ b → r ≡ k → eqb b k ≡ true
+byte-is {r} {b} {k} e f = eq-eqb b k (sym e ∙ f)
+
+pub byte-not : {r b k : ℕ} → r ≡ b → (r ≡ k → ⊥) → eqb b k ≡ false
+byte-not {r} {b} {k} e f = ne-eqb b k (λ g. f (e ∙ g))
+
+-- Whether bytes stand at a place, by the first of them.
+pub opens-yes : (s w : List ℕ) (at a : ℕ) → eqb (byteAt s at) a ≡ true → opens s (a ∷ w) at ≡ opens s w (at + 1)
+unfolding opens
+opens-yes s w at a h = rw h
+
+pub opens-no : (s w : List ℕ) (at a : ℕ) → eqb (byteAt s at) a ≡ false → opens s (a ∷ w) at ≡ false
+unfolding opens
+opens-no s w at a h = rw h
+
+pub opens-one : (s : List ℕ) (at a : ℕ) → opens s (a ∷ []) at ≡ eqb (byteAt s at) a
+unfolding opens
+opens-one s at a = go (eqb (byteAt s at) a)
+  where
+    go : (b : Bool) → pick b true false ≡ b
+    go true = refl
+    go false = refl
+
+-- ---- answers
+
+no-got : {r : Ans} {p m n a b c d : ℕ} → r ≡ Got p m → r ≡ No n a b c d → ⊥
+no-got {r} {p} {m} {n} {a} {b} {c} {d} e f = let z : _≡_ {A = ℕ} 0 1 = cc in omega arith
+
+-- Where the code has a refusal, the rule gave that refusal; where it has a place and a number, the rule read something.
+pub view-no : (w : Bool → Forest → ℕ) (v : Answer) {r : Ans} {n a b c d : ℕ} → r ≡ view w v → r ≡ No n a b c d → v ≡ trouble n a b c d
+view-no w (got y o q) e f = absurd (no-got e f)
+view-no w (trouble n′ a′ b′ c′ d′) {r} {n} {a} {b} {c} {d} e f = let h : No n′ a′ b′ c′ d′ ≡ No n a b c d = sym e ∙ f in cc
+
+pub view-got : (w : Bool → Forest → ℕ) (v : Answer) {r : Ans} {p m : ℕ} → r ≡ view w v → r ≡ Got p m → (a : Bool) × (v ≡ got a (outOf v) p) × (m ≡ w a (outOf v))
+view-got w (got y o q) {r} {p} {m} e f = let h : Got q (w y o) ≡ Got p m = sym e ∙ f in (y, cc, cc)
+view-got w (trouble n a b c d) e f = absurd (no-got f e)
+
+view-on : (w : Bool → Forest → ℕ) (s : List ℕ) (t : Rule) (at : ℕ) → goes t ≡ true → {r : Ans} {p m : ℕ} → r ≡ view w (readAt s t at) → r ≡ Got p m
+    → (readAt s t at ≡ got true (outOf (readAt s t at)) p) × (m ≡ w true (outOf (readAt s t at)))
+view-on w s t at h {r} {p} {m} e f =
+    let v = view-got w (readAt s t at) e f in
+    let k : v .0 ≡ true = got-goes (readAt s t at) (on s (suc (length s)) t h 0 at) (v .1) in
+    (v .1 ∙ ap (λ (b : Bool). got b (outOf (readAt s t at)) p) k, v .2 ∙ ap (λ (b : Bool). w b (outOf (readAt s t at))) k)
+
+pub leaf-no : {w : Bool → Forest → ℕ} {r : Ans} {s : List ℕ} {t : Rule} {at k n a b c d : ℕ} → Leaf w r s t at k → r ≡ No n a b c d → readAt s t at ≡ trouble n a b c d
+leaf-no {w} {s = s} {t} {at} l f = view-no w (readAt s t at) (l .is) f
+
+pub leaf-got : {w : Bool → Forest → ℕ} {r : Ans} {s : List ℕ} {t : Rule} {at k p m : ℕ} → goes t ≡ true → Leaf w r s t at k → r ≡ Got p m → readAt s t at ≡ got true (outOf (readAt s t at)) p
+leaf-got {w} {s = s} {t} {at} h l f = view-on w s t at h (l .is) f .0
+
+pub leaf-number : {w : Bool → Forest → ℕ} {r : Ans} {s : List ℕ} {t : Rule} {at k p m : ℕ} → goes t ≡ true → Leaf w r s t at k → r ≡ Got p m → m ≡ w true (outOf (readAt s t at))
+leaf-number {w} {s = s} {t} {at} h l f = view-on w s t at h (l .is) f .1
+
+-- What is said of an answer that got something: nothing of a refusal, and of the one that did.
+pub none-got : {n a b c d : ℕ} (P : ℕ → ℕ → Type 0) (p m : ℕ) → No n a b c d ≡ Got p m → P p m
+none-got P p m e = absurd (no-got e refl)
+
+pub this-got : {q l : ℕ} (P : ℕ → ℕ → Type 0) → P q l → (p m : ℕ) → Got q l ≡ Got p m → P p m
+this-got {q} {l} P h p m e =
+    let e₁ : q ≡ p = cc in
+    let e₂ : l ≡ m = cc in
+    subst (λ (x : ℕ). P x m) e₁ (subst (λ (x : ℕ). P q x) e₂ h)
+
+-- ---- to close a return
+
+-- The rule refuses, and the code hands up that refusal.
+pub leaf-stop : (w : Bool → Forest → ℕ) (s : List ℕ) (t : Rule) (at k : ℕ) {r : Ans} {n a b c d : ℕ} → r ≡ No n a b c d → readAt s t at ≡ trouble n a b c d → Leaf w r s t at k
+leaf-stop w s t at k {r} {n} {a} {b} {c} {d} f e = record { is = f ∙ sym (ap (view w) e); far = λ p m g. absurd (no-got g f) }
+
+-- The rule has read something that ends at p, and m stands for it.
+pub leaf-done : (w : Bool → Forest → ℕ) (s : List ℕ) (t : Rule) (at k p m : ℕ) {a : Bool} {o : Forest} → readAt s t at ≡ got a o p → m ≡ w a o → (at + k ≤ p) × (p ≤ length s) → Leaf w (Got p m) s t at k
+leaf-done w s t at k p m {a} {o} e f h = record { is = ap (λ (x : ℕ). Got p x) f ∙ sym (ap (view w) e); far = this-got (λ q l. (at + k ≤ q) × (q ≤ length s)) h }
+
+-- What a rule got is its answer's forest.
+pub known : (x : Answer) {a : Bool} {o : Forest} {p : ℕ} → x ≡ got a o p → x ≡ got a (outOf x) p
+known x {a} {o} {p} e = e ∙ ap (λ (v : Forest). got a v p) (sym (ap outOf e))
+
+-- One look less: a rule with the same answer.
+pub leaf-as : {w : Bool → Forest → ℕ} {r : Ans} {s : List ℕ} {t u : Rule} {at k : ℕ} → Leaf w r s t at k → readAt s t at ≡ readAt s u at → Leaf w r s u at k
+leaf-as {w} l e = record { is = l .is ∙ ap (view w) e; far = l .far }
+
+-- ---- one byte
+
+module _ (s : List ℕ) (F e at : ℕ) where
+  pub step-is : at < length s → parse s F step e at ≡ got true (byte (byteAt s at) nil) (at + 1)
+  unfolding parse
+  step-is h = rw (lt-ltb at (length s) h)
+
+  pub when-yes : (f : ℕ → Bool) (t u : Rule) → f (byteAt s at) ≡ true → parse s F (when f t u) e at ≡ parse s F t e at
+  unfolding parse
+  when-yes f t u h = rw h
+
+  pub when-no : (f : ℕ → Bool) (t u : Rule) → f (byteAt s at) ≡ false → parse s F (when f t u) e at ≡ parse s F u e at
+  unfolding parse
+  when-no f t u h = rw h
+
+  -- One rule, then the other.
+  pub seq-is : (t u : Rule) {o : Forest} {p : ℕ} → parse s F t e at ≡ got true o p → parse s F (seq t u) e at ≡ behind o (parse s F u e p)
+  unfolding parse
+  seq-is t u h = rw h
+
+  pub seq-no : (t u : Rule) {n a b c d : ℕ} → parse s F t e at ≡ trouble n a b c d → parse s F (seq t u) e at ≡ trouble n a b c d
+  unfolding parse
+  seq-no t u h = rw h
+
+-- ---- nothing that is needed begins here
+
+pub need-end : (s : List ℕ) (at : ℕ) → eqb (byteAt s at) 256 ≡ true → readAt s need at ≡ trouble 4 at at 0 0
+unfolding parse need
+need-end s at h = rw h
+
+pub need-here : (s : List ℕ) (at : ℕ) → eqb (byteAt s at) 256 ≡ false → readAt s need at ≡ trouble 3 at at 0 0
+unfolding parse need
+need-here s at h = rw h
+
+-- An answer that is never got.
+abbrev pub Fails : Answer → Type 0
+Fails (got a o p) = ⊥
+Fails (trouble n a b c d) = Unit {0}
+
+pub need-fails : (s : List ℕ) (at : ℕ) → Fails (readAt s need at)
+unfolding parse need
+need-fails s at = go (eqb (byteAt s at) 256)
+  where
+    go : (b : Bool) → Fails (pick b (trouble 4 at at 0 0) (trouble 3 at at 0 0))
+    go true = tt
+    go false = tt
+
+-- A leaf that only refuses, for a rule with the same answer, at any distance.
+pub leaf-refuses : {w : Bool → Forest → ℕ} {r : Ans} {s : List ℕ} {t u : Rule} {at j k : ℕ} → Leaf w r s t at j → readAt s t at ≡ readAt s u at → Fails (readAt s t at) → Leaf w r s u at k
+leaf-refuses {w} {r} {s} {t} {u} {at} l e f = record { is = l .is ∙ ap (view w) e; far = λ p m g. absurd (by (readAt s t at) f (view-got w (readAt s t at) (l .is) g)) }
+  where
+    by : (x : Answer) → Fails x → {p m : ℕ} → (a : Bool) × (x ≡ got a (outOf x) p) × (m ≡ w a (outOf x)) → ⊥
+    by (got a o p) f v = f
+    by (trouble n a b c d) f {p} {m} v = let z : _≡_ {A = ℕ} 0 1 = cc (v .1) in omega arith

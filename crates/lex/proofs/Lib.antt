@@ -1,0 +1,2 @@
+-- What the proofs of several leaves use.
+pub mod Laws

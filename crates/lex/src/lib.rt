@@ -1,0 +1,71 @@
+// The ground of the leaves: an answer, a byte, and the tests for one, two or three bytes.
+ghost use mathlib.Core.Path.{_≡_};
+ghost use mathlib.Core.List.{[], _∷_};
+ghost use Prim.Native.Nat.{_+_, _<_, _≤_};
+ghost use lib.ListN.{length};
+ghost use Rattle.rules.specs.Parse.{byteAt, opens};
+ghost use Rattle.jsx.specs.Byte.{need};
+ghost use Rattle.lex.specs.Contract.{Leaf, nothing, expectByte};
+
+// What a reader answers. A refusal is handed up as it is.
+pub enum Ans {
+    // The next place, and one number that stands for what was read.
+    Got(usize, usize),
+    // A refusal's number and two places, start and end.
+    No(u32, usize, usize, usize, usize),
+}
+
+// The byte at a place, 256 at the end.
+pub fn byte(s: &[u8], at: usize) -> u32
+    ensures { λ r. ⌜ r ≡ byteAt (now (s .entry)) at ⌝ }
+{
+    if at < s.len() { s[at] as u32 } else { 256 }
+}
+
+// Something is needed here and does not begin here: 4 at the end, 3 elsewhere. (The Rust's `unexpected`.)
+pub fn unexpected(s: &[u8], at: usize) -> Ans
+    ensures { λ r. ⌜ Leaf nothing r (now (s .entry)) need at 0 ⌝ }
+{
+    let b = byte(s, at);
+    if b == 256 {
+        Ans::No(4, at, at, 0, 0)
+    } else {
+        Ans::No(3, at, at, 0, 0)
+    }
+}
+
+// This byte and no other. (The Rust's `expect`.)
+pub fn expect(s: &[u8], at: usize, b: u32) -> Ans
+    requires { ⌜ (b < 256) × (at ≤ length (now s)) ⌝ }
+    ensures { λ r. ⌜ Leaf nothing r (now (s .entry)) (expectByte b) at 1 ⌝ }
+{
+    if byte(s, at) == b {
+        Ans::Got(at + 1, 0)
+    } else {
+        unexpected(s, at)
+    }
+}
+
+// Whether the bytes a and b stand at a place.
+pub fn two_at(s: &[u8], at: usize, a: u32, b: u32) -> bool
+    requires { ⌜ at ≤ length (now s) ⌝ }
+    ensures { λ r. ⌜ r ≡ opens (now (s .entry)) (a ∷ b ∷ []) at ⌝ }
+{
+    if byte(s, at) == a {
+        byte(s, at + 1) == b
+    } else {
+        false
+    }
+}
+
+// Whether the bytes a, b and c stand at a place.
+pub fn three_at(s: &[u8], at: usize, a: u32, b: u32, c: u32) -> bool
+    requires { ⌜ (a < 256) × (at ≤ length (now s)) ⌝ }
+    ensures { λ r. ⌜ r ≡ opens (now (s .entry)) (a ∷ b ∷ c ∷ []) at ⌝ }
+{
+    if byte(s, at) == a {
+        two_at(s, at + 1, b, c)
+    } else {
+        false
+    }
+}
