@@ -1,4 +1,4 @@
--- Laws of loops, blanks and comments, over plain variables.
+-- Laws of blanks and comments, over plain variables.
 use mathlib.Core.Path.{_≡_, refl, sym, ap, subst, _∙_}
 use mathlib.Core.Bool.{Bool, true, false}
 use mathlib.Core.List.{List, [], _∷_}
@@ -11,44 +11,14 @@ use borrow.Author.Tests.{ne-eqb, eqb-false, lt-ltb}
 use Rattle.rules.specs.Forest.{Forest, nil, byte, _⋈_}
 use Rattle.rules.specs.Rule.{Rule, step, seq, many}
 use Rattle.rules.specs.Parse.{Answer, got, trouble, pick, behind, byteAt, opens, repeat, parse}
-use Rattle.rules.proofs.Run.{goes, never, behind-none, loop-more, loop-ends, loop-no}
+use Rattle.rules.proofs.Run.{goes, never}
 use Rattle.jsx.specs.Byte.{bytesOf, end, lineEnd, _or_}
 use Rattle.jsx.specs.Blank.{blankByte, commentTurn, comment, lineTurn, lineComment, blank, blanks, pass}
 use Rattle.lex.specs.Contract.{readAt, view, nothing, Leaf}
 use Rattle.lex.specs.declared.Ans.{Ans}
 use Rattle.lex.specs.declared.Ans.the-variants.{Got, No}
 use Rattle.lex.proofs.Laws as Lex
-
--- ---- loops
-
--- The loop `many t` from `from` on, with the mark e, has come to p.
-pub record Turns (s : List ℕ) (t : Rule) (e from p : ℕ) : Type 0 where
-  pub fuel : ℕ
-  pub acc : Forest
-  pub enough : length s < fuel + p
-  pub past : from ≤ p
-  pub inside : p ≤ length s
-  pub so : parse s (suc (length s)) (many t) e from ≡ behind acc (repeat (parse s (suc (length s)) t e) fuel p)
-
-pub turns-begin : (s : List ℕ) (t : Rule) (e at : ℕ) → at ≤ length s → Turns s t e at at
-unfolding parse
-turns-begin s t e at h =
-    record { fuel = suc (length s); acc = nil; enough = omega arith; past = omega arith; inside = h; so = sym (behind-none (repeat (parse s (suc (length s)) t e) (suc (length s)) at)) }
-
-module _ {s : List ℕ} {t : Rule} {e from p : ℕ} (l : Turns s t e from p) where
-  -- One more turn, which goes on.
-  pub turns-more : {o : Forest} {q : ℕ} → parse s (suc (length s)) t e p ≡ got true o q → p < q → q ≤ length s → Turns s t e from q
-  turns-more {o} {q} b k i =
-      let g = loop-more _ (parse s (suc (length s)) t e) (length s) (l .acc) (l .fuel) p (l .so) (l .enough) (l .inside) b k in
-      record { fuel = g .0; acc = l .acc ⋈ o; enough = g .1; past = omega arith; inside = i; so = g .2 }
-
-  -- The last turn, which reads nothing.
-  pub turns-end : parse s (suc (length s)) t e p ≡ got false nil p → parse s (suc (length s)) (many t) e from ≡ got true (l .acc) p
-  turns-end b = loop-ends _ (parse s (suc (length s)) t e) (length s) (l .acc) (l .fuel) p (l .so) (l .enough) (l .inside) b
-
-  -- A turn that refuses.
-  pub turns-no : {n a b c d : ℕ} → parse s (suc (length s)) t e p ≡ trouble n a b c d → parse s (suc (length s)) (many t) e from ≡ trouble n a b c d
-  turns-no b = loop-no _ (parse s (suc (length s)) t e) (length s) (l .acc) (l .fuel) p (l .so) (l .enough) (l .inside) b
+use Rattle.lex.proofs.Turns.{Turns, turns-end, turns-no}
 
 -- ---- tests
 
@@ -70,10 +40,6 @@ pub neither : {A : Type 0} (a b : Bool) (x y : A) → pick a true b ≡ false �
 neither true b x y h = never (sym h)
 neither false true x y h = never (sym h)
 neither false false x y h = refl
-
--- A test of a byte that the code has read.
-pub tested : (f : ℕ → Bool) {r b : ℕ} {x v : Bool} → r ≡ b → x ≡ f r → x ≡ v → f b ≡ v
-tested f e g h = sym (ap f e) ∙ sym g ∙ h
 
 module _ (b : ℕ) where
   pub line-is : (b ≡ 10) ⊎ ((b ≡ 13) ⊎ (b ≡ 256)) → (end or lineEnd) b ≡ true
@@ -103,17 +69,6 @@ module _ (b : ℕ) where
 pub not-blank-end : blankByte 256 ≡ false
 unfolding blankByte
 not-blank-end = refl
-
--- ---- answers
-
-view-behind : (o : Forest) (x : Answer) → view nothing (behind o x) ≡ view nothing x
-view-behind o (got a v p) = refl
-view-behind o (trouble n a b c d) = refl
-
--- A leaf whose rule has read something in front.
-pub leaf-behind : {r : Ans} {s : List ℕ} {t u : Rule} {at q j : ℕ} (k : ℕ) (o : Forest) → Leaf nothing r s u q j → readAt s t at ≡ behind o (readAt s u q) → at + k ≤ q + j → Leaf nothing r s t at k
-leaf-behind {s = s} {u = u} {q = q} k o l e h =
-    record { is = l .is ∙ sym (ap (view nothing) e ∙ view-behind o (readAt s u q)); far = λ p m g. (let f = l .far p m g in omega arith, l .far p m g .1) }
 
 -- ---- comments
 

@@ -133,7 +133,20 @@ known x {a} {o} {p} e = e ∙ ap (λ (v : Forest). got a v p) (sym (ap outOf e))
 pub leaf-as : {w : Bool → Forest → ℕ} {r : Ans} {s : List ℕ} {t u : Rule} {at k : ℕ} → Leaf w r s t at k → readAt s t at ≡ readAt s u at → Leaf w r s u at k
 leaf-as {w} l e = record { is = l .is ∙ ap (view w) e; far = l .far }
 
+-- A leaf behind a forest that does not change its number.
+pub leaf-behind : (w : Bool → Forest → ℕ) (g : Rule) (at k : ℕ) (u : Forest) {r : Ans} {s : List ℕ} {t : Rule} {p j : ℕ} → ((a : Bool) (o : Forest) → w a o ≡ w a (u ⋈ o))
+    → Leaf w r s t p j → readAt s g at ≡ behind u (readAt s t p) → at + k ≤ p + j → Leaf w r s g at k
+leaf-behind w g at k u {s = s} {t} {p} {j} h l e i = record { is = l .is ∙ go (readAt s t p) ∙ sym (ap (view w) e); far = λ q m x. let y = l .far q m x in (omega arith, y .1) }
+  where
+    go : (x : Answer) → view w x ≡ view w (behind u x)
+    go (got a o q) = ap (λ (n : ℕ). Got q n) (h a o)
+    go (trouble n a b c d) = refl
+
 -- ---- one byte
+
+-- A test of a byte that the code has read.
+pub tested : (f : ℕ → Bool) {r b : ℕ} {x v : Bool} → r ≡ b → x ≡ f r → x ≡ v → f b ≡ v
+tested f e g h = sym (ap f e) ∙ sym g ∙ h
 
 module _ (s : List ℕ) (F e at : ℕ) where
   pub step-is : at < length s → parse s F step e at ≡ got true (byte (byteAt s at) nil) (at + 1)

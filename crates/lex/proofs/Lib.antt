@@ -1,2 +1,3 @@
 -- What the proofs of several leaves use.
 pub mod Laws
+pub mod Turns

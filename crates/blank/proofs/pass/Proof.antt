@@ -1,7 +1,11 @@
+use mathlib.Core.Path.{refl}
 use native.Mathlib.Omega.{arith}
 use borrow.Author.Needs.{needs}
 use Rattle.rules.specs.Forest.{nil, byte}
 use Rattle.rules.specs.Parse.{byteAt}
+use Rattle.jsx.specs.Blank.{pass}
+use Rattle.lex.specs.Contract.{nothing}
+use Rattle.lex.proofs.Laws as Lex
 use Rattle.blank.proofs.Laws
 use Rattle.blank.proofs.pass.Statement.{statement}
 use Rattle.blank.proofs.pass.Tie as tie
@@ -19,7 +23,7 @@ returns c =
     let skip-blanks = c .skip-blanks in
     let s = args .s .now in
     let at = args .at in
-    Laws.leaf-behind 1 (byte (byteAt s at) nil) (skip-blanks .ensures) (Laws.pass-is s at pre) (omega arith)
+    Lex.leaf-behind nothing pass at 1 (byte (byteAt s at) nil) (λ a o. refl) (skip-blanks .ensures) (Laws.pass-is s at pre) (omega arith)
 
 pub pass-spec : {M : Type 1} → statement M
 pass-spec = tie.close (tie.spec add-skip-blanks skip-blanks-requires returns)

@@ -6,12 +6,13 @@ use lib.Dec.{lit<}
 use borrow.Author.Needs.{needs}
 use Rattle.jsx.specs.Blank.{blankByte, blank}
 use Rattle.lex.proofs.Laws as Lex
+use Rattle.lex.proofs.Turns.{Turns, turns-begin, turns-more}
 use Rattle.blank.proofs.Laws
 use Rattle.blank.proofs.skip_blanks.Statement.{statement}
 use Rattle.blank.proofs.skip_blanks.Tie as tie
 
 abbrev Inv-loop : tie.InvT-loop
-Inv-loop s at p₀ p = Laws.Turns s blank 0 at p
+Inv-loop s at p₀ p = Turns s blank 0 at p
 
 abbrev μ-loop : tie.MeasureT-loop
 μ-loop s at p₀ p = length s - p
@@ -20,7 +21,7 @@ loop-holds : tie.Need-loop-holds Inv-loop μ-loop
 loop-holds c =
     let args = c .before .args in
     let pre = c .before .pre in
-    Laws.turns-begin (args .s .now) blank 0 (args .at) pre
+    turns-begin (args .s .now) blank 0 (args .at) pre
 
 byte-requires : tie.Need-byte-requires Inv-loop μ-loop
 byte-requires c κs = search needs
@@ -38,7 +39,7 @@ loop-less c =
     let byte = c .before .before .byte in
     let is-blank = c .before .is-blank in
     let if1 = c .if1 in
-    let t = Laws.tested blankByte (byte .ensures) (is-blank .ensures) (if1 .taken) in
+    let t = Lex.tested blankByte (byte .ensures) (is-blank .ensures) (if1 .taken) in
     let i = Lex.test-inside blankByte Laws.not-blank-end (args .s .now) (loop .p) t in
     omega arith
 
@@ -51,9 +52,9 @@ loop-again c =
     let if1 = c .if1 in
     let s = args .s .now in
     let p = loop .p in
-    let t = Laws.tested blankByte (byte .ensures) (is-blank .ensures) (if1 .taken) in
+    let t = Lex.tested blankByte (byte .ensures) (is-blank .ensures) (if1 .taken) in
     let i = Lex.test-inside blankByte Laws.not-blank-end s p t in
-    Laws.turns-more (loop .inv) (Laws.blank-step s (suc (length s)) 0 p t i) (omega arith) (omega arith)
+    turns-more (loop .inv) (Laws.blank-step s (suc (length s)) 0 p t i) (omega arith) (omega arith)
 
 returns : tie.Need-returns Inv-loop μ-loop
 returns c =
@@ -65,7 +66,7 @@ returns c =
     let if2 = c .if2 in
     let s = args .s .now in
     let p = loop .p in
-    let t = Laws.tested blankByte (byte .ensures) (is-blank .ensures) (if1 .left) in
+    let t = Lex.tested blankByte (byte .ensures) (is-blank .ensures) (if1 .left) in
     let b = Laws.blank-other s (suc (length s)) 0 p t (Lex.byte-not (byte .ensures) (if2 .taken)) in
     Laws.blanks-end (loop .inv) b
 
@@ -104,7 +105,7 @@ returns-2 c =
     let enum-told = c .enum-told in
     let s = args .s .now in
     let p = loop .p in
-    let t = Laws.tested blankByte (byte .ensures) (is-blank .ensures) (if1 .left) in
+    let t = Lex.tested blankByte (byte .ensures) (is-blank .ensures) (if1 .left) in
     let u = Lex.byte-is (byte .ensures) (if2 .left) in
     let g = enum-told .given .1 in
     let b = Laws.blank-comment s (suc (length s)) 0 p t u (Lex.byte-is (byte2 .ensures) (if3 .taken)) ∙ Lex.leaf-no (skip-comment .ensures) g in
@@ -131,11 +132,11 @@ loop-again-2 c =
     let r = c .before .r in
     let s = args .s .now in
     let p = loop .p in
-    let t = Laws.tested blankByte (byte .ensures) (is-blank .ensures) (if1 .left) in
+    let t = Lex.tested blankByte (byte .ensures) (is-blank .ensures) (if1 .left) in
     let u = Lex.byte-is (byte .ensures) (if2 .left) in
     let f = skip-comment .ensures .far _ _ (r .given .1) in
     let b = Laws.blank-comment s (suc (length s)) 0 p t u (Lex.byte-is (byte2 .ensures) (if3 .taken)) ∙ Lex.leaf-got Laws.goes-comment (skip-comment .ensures) (r .given .1) in
-    Laws.turns-more (loop .inv) b (omega arith) (f .1)
+    turns-more (loop .inv) b (omega arith) (f .1)
 
 returns-3 : tie.Need-returns-3 Inv-loop μ-loop
 returns-3 c =
@@ -150,7 +151,7 @@ returns-3 c =
     let if4 = c .if4 in
     let s = args .s .now in
     let p = loop .p in
-    let t = Laws.tested blankByte (byte .ensures) (is-blank .ensures) (if1 .left) in
+    let t = Lex.tested blankByte (byte .ensures) (is-blank .ensures) (if1 .left) in
     let u = Lex.byte-is (byte .ensures) (if2 .left) in
     let v = Lex.byte-not (byte2 .ensures) (if3 .left) in
     let b = Laws.blank-slash s (suc (length s)) 0 p t u v (Lex.byte-not (byte2 .ensures) (if4 .taken)) in
@@ -186,7 +187,7 @@ returns-4 c =
     let enum-told2 = c .enum-told2 in
     let s = args .s .now in
     let p = loop .p in
-    let t = Laws.tested blankByte (byte .ensures) (is-blank .ensures) (if1 .left) in
+    let t = Lex.tested blankByte (byte .ensures) (is-blank .ensures) (if1 .left) in
     let u = Lex.byte-is (byte .ensures) (if2 .left) in
     let v = Lex.byte-not (byte2 .ensures) (if3 .left) in
     let g = enum-told2 .given .1 in
@@ -215,12 +216,12 @@ loop-again-3 c =
     let r2 = c .before .r2 in
     let s = args .s .now in
     let p = loop .p in
-    let t = Laws.tested blankByte (byte .ensures) (is-blank .ensures) (if1 .left) in
+    let t = Lex.tested blankByte (byte .ensures) (is-blank .ensures) (if1 .left) in
     let u = Lex.byte-is (byte .ensures) (if2 .left) in
     let v = Lex.byte-not (byte2 .ensures) (if3 .left) in
     let f = skip-line-comment .ensures .far _ _ (r2 .given .1) in
     let b = Laws.blank-line s (suc (length s)) 0 p t u v (Lex.byte-is (byte2 .ensures) (if4 .left)) ∙ Lex.leaf-got Laws.goes-line (skip-line-comment .ensures) (r2 .given .1) in
-    Laws.turns-more (loop .inv) b (omega arith) (f .1)
+    turns-more (loop .inv) b (omega arith) (f .1)
 
 pub skip-blanks-spec : {M : Type 1} → statement M
 skip-blanks-spec =

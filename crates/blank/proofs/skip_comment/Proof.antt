@@ -12,12 +12,13 @@ use Rattle.jsx.specs.Blank.{commentTurn, comment}
 use Rattle.rules.specs.Parse.{opens}
 use Rattle.lex.specs.Contract.{nothing}
 use Rattle.lex.proofs.Laws as Lex
+use Rattle.lex.proofs.Turns.{Turns, turns-begin, turns-more, turns-end, turns-no}
 use Rattle.blank.proofs.Laws
 use Rattle.blank.proofs.skip_comment.Statement.{statement}
 use Rattle.blank.proofs.skip_comment.Tie as tie
 
 abbrev Inv-loop : tie.InvT-loop
-Inv-loop s at p₀ p = Laws.Turns s commentTurn at (at + 2) p
+Inv-loop s at p₀ p = Turns s commentTurn at (at + 2) p
 
 abbrev μ-loop : tie.MeasureT-loop
 μ-loop s at p₀ p = length s - p
@@ -29,7 +30,7 @@ loop-holds : tie.Need-loop-holds Inv-loop μ-loop
 loop-holds c =
     let args = c .before .args in
     let pre = c .before .pre in
-    Laws.turns-begin (args .s .now) commentTurn (args .at) (args .at + 2) pre
+    turns-begin (args .s .now) commentTurn (args .at) (args .at + 2) pre
 
 byte-requires : tie.Need-byte-requires Inv-loop μ-loop
 byte-requires c κs = search needs
@@ -44,7 +45,7 @@ returns c =
     let s = args .s .now in
     let at = args .at in
     let b = Laws.comment-open s (suc (length s)) at (loop .p) (Lex.byte-is (byte .ensures) (if1 .taken)) in
-    Lex.leaf-stop nothing s comment at 4 refl (Laws.comment-no s at pre (Laws.turns-no (loop .inv) b))
+    Lex.leaf-stop nothing s comment at 4 refl (Laws.comment-no s at pre (turns-no (loop .inv) b))
 
 add-byte : tie.Need-add-byte Inv-loop μ-loop
 add-byte c = search needs
@@ -68,12 +69,12 @@ returns-2 c =
     let s = args .s .now in
     let at = args .at in
     let p = loop .p in
-    let z = Laws.tested (λ n. eqb n 47) (byte2 .ensures) refl (if3 .taken) in
+    let z = Lex.tested (λ n. eqb n 47) (byte2 .ensures) refl (if3 .taken) in
     let y = Laws.both-here s p 42 47 (Lex.byte-is (byte .ensures) (if2 .taken)) z in
     let i = Lex.before-end s (p + 1) 47 (eqb-true _ 47 z) (lit< tt) in
     let b = Laws.comment-close s (suc (length s)) at p (Lex.byte-not (byte .ensures) (if1 .left)) y in
     let l = loop .inv in
-    Lex.leaf-done nothing s comment at 4 (p + 2) 0 (Laws.comment-got s at pre (Laws.turns-end l b) (omega arith)) refl (omega arith)
+    Lex.leaf-done nothing s comment at 4 (p + 2) 0 (Laws.comment-got s at pre (turns-end l b) (omega arith)) refl (omega arith)
 
 add-p-2 : tie.Need-add-p-2 Inv-loop μ-loop
 add-p-2 c = search needs
@@ -97,9 +98,9 @@ loop-again c =
     let s = args .s .now in
     let p = loop .p in
     let i = Lex.not-end s p (λ e. if1 .left (byte .ensures ∙ e)) (loop .inv .inside) in
-    let n : opens s (42 ∷ 47 ∷ []) p ≡ false = ⊎-elim (λ w. Laws.second-not s p 42 47 (Lex.byte-is (byte .ensures) (w .0 .taken)) (Laws.tested (λ n. eqb n 47) (w .1 .ensures) refl (w .2 .left))) (λ w. Lex.opens-no s (47 ∷ []) p 42 (Lex.byte-not (byte .ensures) (w .left))) (if2 .came) in
+    let n : opens s (42 ∷ 47 ∷ []) p ≡ false = ⊎-elim (λ w. Laws.second-not s p 42 47 (Lex.byte-is (byte .ensures) (w .0 .taken)) (Lex.tested (λ n. eqb n 47) (w .1 .ensures) refl (w .2 .left))) (λ w. Lex.opens-no s (47 ∷ []) p 42 (Lex.byte-not (byte .ensures) (w .left))) (if2 .came) in
     let b = Laws.comment-step s (suc (length s)) (args .at) p (Lex.byte-not (byte .ensures) (if1 .left)) n i in
-    Laws.turns-more (loop .inv) b (omega arith) (omega arith)
+    turns-more (loop .inv) b (omega arith) (omega arith)
 
 pub skip-comment-spec : {M : Type 1} → statement M
 skip-comment-spec =

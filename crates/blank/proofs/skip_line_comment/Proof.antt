@@ -10,12 +10,13 @@ use Rattle.jsx.specs.Byte.{end, lineEnd, _or_}
 use Rattle.jsx.specs.Blank.{lineTurn, lineComment}
 use Rattle.lex.specs.Contract.{nothing}
 use Rattle.lex.proofs.Laws as Lex
+use Rattle.lex.proofs.Turns.{Turns, turns-begin, turns-more, turns-end, turns-no}
 use Rattle.blank.proofs.Laws
 use Rattle.blank.proofs.skip_line_comment.Statement.{statement}
 use Rattle.blank.proofs.skip_line_comment.Tie as tie
 
 abbrev Inv-loop : tie.InvT-loop
-Inv-loop s at p₀ p = Laws.Turns s lineTurn 0 (at + 2) p
+Inv-loop s at p₀ p = Turns s lineTurn 0 (at + 2) p
 
 abbrev μ-loop : tie.MeasureT-loop
 μ-loop s at p₀ p = length s - p
@@ -27,7 +28,7 @@ loop-holds : tie.Need-loop-holds Inv-loop μ-loop
 loop-holds c =
     let args = c .before .args in
     let pre = c .before .pre in
-    Laws.turns-begin (args .s .now) lineTurn 0 (args .at + 2) pre
+    turns-begin (args .s .now) lineTurn 0 (args .at + 2) pre
 
 byte-requires : tie.Need-byte-requires Inv-loop μ-loop
 byte-requires c κs = search needs
@@ -46,9 +47,9 @@ returns c =
     let s = args .s .now in
     let at = args .at in
     let p = loop .p in
-    let b = Laws.line-end s (suc (length s)) 0 p (Laws.tested (end or lineEnd) (byte .ensures) (ends-line .ensures) (if1 .taken)) in
+    let b = Laws.line-end s (suc (length s)) 0 p (Lex.tested (end or lineEnd) (byte .ensures) (ends-line .ensures) (if1 .taken)) in
     let l = loop .inv in
-    Lex.leaf-done nothing s lineComment at 2 p 0 (Laws.line-got s at pre (Laws.turns-end l b)) refl (omega arith)
+    Lex.leaf-done nothing s lineComment at 2 p 0 (Laws.line-got s at pre (turns-end l b)) refl (omega arith)
 
 add-separates : tie.Need-add-separates Inv-loop μ-loop
 add-separates c = search needs
@@ -76,10 +77,10 @@ returns-2 c =
     let s = args .s .now in
     let at = args .at in
     let p = loop .p in
-    let t = Laws.tested (end or lineEnd) (byte .ensures) (ends-line .ensures) (if1 .left) in
+    let t = Lex.tested (end or lineEnd) (byte .ensures) (ends-line .ensures) (if1 .left) in
     let y = Laws.separator-first s p (Lex.byte-is (byte .ensures) (if2 .taken)) ∙ sym (separates .ensures) ∙ if3 .taken in
     let b = Laws.line-bad s (suc (length s)) 0 p t y in
-    Lex.leaf-stop nothing s lineComment at 2 refl (Laws.line-no s at pre (Laws.turns-no (loop .inv) b))
+    Lex.leaf-stop nothing s lineComment at 2 refl (Laws.line-no s at pre (turns-no (loop .inv) b))
 
 add-p-2 : tie.Need-add-p-2 Inv-loop μ-loop
 add-p-2 c = search needs
@@ -91,7 +92,7 @@ loop-less c =
     let byte = c .before .before .before .byte in
     let ends-line = c .before .before .ends-line in
     let if1 = c .before .if1 in
-    let t = Laws.tested (end or lineEnd) (byte .ensures) (ends-line .ensures) (if1 .left) in
+    let t = Lex.tested (end or lineEnd) (byte .ensures) (ends-line .ensures) (if1 .left) in
     let i = Laws.line-inside (args .s .now) (loop .p) t (loop .inv .inside) in
     omega arith
 
@@ -105,11 +106,11 @@ loop-again c =
     let if2 = c .if2 in
     let s = args .s .now in
     let p = loop .p in
-    let t = Laws.tested (end or lineEnd) (byte .ensures) (ends-line .ensures) (if1 .left) in
+    let t = Lex.tested (end or lineEnd) (byte .ensures) (ends-line .ensures) (if1 .left) in
     let i = Laws.line-inside s p t (loop .inv .inside) in
     let n : Laws.separator s p ≡ false = ⊎-elim (λ w. Laws.separator-first s p (Lex.byte-is (byte .ensures) (w .0 .taken)) ∙ sym (w .1 .ensures) ∙ w .2 .left) (λ w. Laws.separator-not s p (Lex.byte-not (byte .ensures) (w .left))) (if2 .came) in
     let b = Laws.line-step s (suc (length s)) 0 p t n i in
-    Laws.turns-more (loop .inv) b (omega arith) (omega arith)
+    turns-more (loop .inv) b (omega arith) (omega arith)
 
 pub skip-line-comment-spec : {M : Type 1} → statement M
 skip-line-comment-spec =

@@ -3,27 +3,24 @@ use Prim.Native.Nat.{ℕ, suc, _+_, _-_, _≤_, _<_}
 use native.Mathlib.Omega.{arith}
 use lib.ListN.{length}
 use borrow.Author.Needs.{needs}
-use Rattle.rules.specs.Forest.{Forest, nil}
-use Rattle.rules.specs.Parse.{behind, repeat, parse}
-use Rattle.rules.proofs.Run.{behind-none, loop-more, loop-ends, loop-no}
 use Rattle.jsx.specs.Utf8.{utf8}
-use Rattle.lex.specs.Contract.{readAt, nothing}
+use Rattle.lex.specs.Contract.{nothing}
 use Rattle.lex.proofs.Laws as lex
+use Rattle.lex.proofs.Turns.{Turns, turns-begin, turns-more, turns-end, turns-no}
 use Rattle.utf8.proofs.Laws
 use Rattle.utf8.proofs.utf8.Statement.{statement}
 use Rattle.utf8.proofs.utf8.Tie as tie
 
 abbrev Inv-loop : tie.InvT-loop
-Inv-loop s p₀ p = (f : ℕ) × (acc : Forest) × (length s < f + p) × (p ≤ length s) × (readAt s utf8 0 ≡ behind acc (repeat (parse s (suc (length s)) Laws.turn 0) f p))
+Inv-loop s p₀ p = Turns s Laws.turn 0 0 p
 
 abbrev μ-loop : tie.MeasureT-loop
 μ-loop s p₀ p = length s - p
 
 loop-holds : tie.Need-loop-holds Inv-loop μ-loop
-unfolding parse utf8
 loop-holds c =
     let args = c .before .args in
-    (suc (length (args .s .now)), nil, omega arith, omega arith, sym (behind-none _))
+    turns-begin (args .s .now) Laws.turn 0 0 (omega arith)
 
 shared-slice-read-b : tie.Need-shared-slice-read-b Inv-loop μ-loop
 shared-slice-read-b c = search needs
@@ -43,10 +40,8 @@ loop-again c =
     let if1 = c .if1 in
     let s = args .s .now in
     let p = loop .p in
-    let v = loop .inv in
     let b = Laws.ascii s (suc (length s)) p (loop-test .taken) (if1 .taken) in
-    let m = loop-more _ (parse s (suc (length s)) Laws.turn 0) (length s) (v .1) (v .0) p (v .4) (v .2) (v .3) b (omega arith) in
-    (m .0, _, m .1, omega arith, m .2)
+    turns-more (loop .inv) b (omega arith) (omega arith)
 
 sequence-requires : tie.Need-sequence-requires Inv-loop μ-loop
 sequence-requires c κs =
@@ -63,6 +58,7 @@ enum-told : tie.Need-enum-told Inv-loop μ-loop
 enum-told c = search needs
 
 returns : tie.Need-returns Inv-loop μ-loop
+unfolding utf8
 returns c =
     let args = c .before .before .before .before .before .before .before .before .args in
     let loop = c .before .before .before .before .before .before .loop in
@@ -72,10 +68,9 @@ returns c =
     let enum-told = c .enum-told in
     let s = args .s .now in
     let p = loop .p in
-    let v = loop .inv in
     let g = enum-told .given .1 in
     let b = Laws.turn-on s (suc (length s)) p (loop-test .taken) (shared-slice-known2 .given p .fits) ∙ lex.leaf-no (sequence .ensures) g in
-    lex.leaf-stop nothing s utf8 0 0 g (loop-no _ (parse s (suc (length s)) Laws.turn 0) (length s) (v .1) (v .0) p (v .4) (v .2) (v .3) b)
+    lex.leaf-stop nothing s utf8 0 0 g (turns-no (loop .inv) b)
 
 loop-less-2 : tie.Need-loop-less-2 Inv-loop μ-loop
 loop-less-2 c =
@@ -93,22 +88,20 @@ loop-again-2 c =
     let r = c .before .r in
     let s = args .s .now in
     let p = loop .p in
-    let v = loop .inv in
     let f = sequence .ensures .far _ _ (r .given .1) in
     let b = Laws.turn-on s (suc (length s)) p (loop-test .taken) (shared-slice-known2 .given p .fits) ∙ lex.leaf-got Laws.goes-sequence (sequence .ensures) (r .given .1) in
-    let m = loop-more _ (parse s (suc (length s)) Laws.turn 0) (length s) (v .1) (v .0) p (v .4) (v .2) (v .3) b (omega arith) in
-    (m .0, _, m .1, f .1, m .2)
+    turns-more (loop .inv) b (omega arith) (f .1)
 
 returns-2 : tie.Need-returns-2 Inv-loop μ-loop
+unfolding utf8
 returns-2 c =
     let args = c .before .before .before .args in
     let loop = c .before .loop in
     let loop-test = c .loop-test in
     let s = args .s .now in
     let p = loop .p in
-    let v = loop .inv in
     let b = Laws.turn-end s (suc (length s)) p (loop-test .left) in
-    lex.leaf-done nothing s utf8 0 0 p 0 (loop-ends _ (parse s (suc (length s)) Laws.turn 0) (length s) (v .1) (v .0) p (v .4) (v .2) (v .3) b) refl (omega arith)
+    lex.leaf-done nothing s utf8 0 0 p 0 (turns-end (loop .inv) b) refl (omega arith)
 
 pub utf8-spec : {M : Type 1} → statement M
 utf8-spec =
