@@ -1,5 +1,5 @@
 -- Laws of blanks and comments, over plain variables.
-use mathlib.Core.Path.{_≡_, refl, sym, ap, subst, _∙_}
+use mathlib.Core.Path.{_≡_, refl, sym, subst, _∙_}
 use mathlib.Core.Bool.{Bool, true, false}
 use mathlib.Core.List.{List, [], _∷_}
 use mathlib.Core.Logic.{_⊎_, inl, inr}
@@ -10,11 +10,11 @@ use lib.Dec.{eqb}
 use borrow.Author.Tests.{ne-eqb, eqb-false, lt-ltb}
 use Rattle.rules.specs.Forest.{Forest, nil, byte, _⋈_}
 use Rattle.rules.specs.Rule.{Rule, step, seq, many}
-use Rattle.rules.specs.Parse.{Answer, got, trouble, pick, behind, byteAt, opens, repeat, parse}
+use Rattle.rules.specs.Parse.{got, trouble, pick, behind, byteAt, opens, parse}
 use Rattle.rules.proofs.Run.{goes, never}
 use Rattle.jsx.specs.Byte.{bytesOf, end, lineEnd, _or_}
 use Rattle.jsx.specs.Blank.{blankByte, commentTurn, comment, lineTurn, lineComment, blank, blanks, pass}
-use Rattle.lex.specs.Contract.{readAt, view, nothing, Leaf}
+use Rattle.lex.specs.Contract.{readAt, nothing, Leaf}
 use Rattle.lex.specs.declared.Ans.{Ans}
 use Rattle.lex.specs.declared.Ans.the-variants.{Got, No}
 use Rattle.lex.proofs.Laws as Lex

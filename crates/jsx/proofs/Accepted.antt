@@ -1,29 +1,27 @@
 -- What an accepted input is, and what the calls answer on it. No input is answered 0 but an accepted one.
 use mathlib.Core.Path.{_≡_, refl, sym, ap, subst, _∙_}
 use mathlib.Core.Bool.{Bool, true, false}
-use mathlib.Core.List.{List, [], _∷_, _++_}
-use Prim.Native.Nat.{ℕ, zero, suc, _+_, _*_, _≤_, _<_}
-use native.Mathlib.Omega.{arith}
+use mathlib.Core.List.{List, []}
+use Prim.Native.Nat.{ℕ, suc, _*_, _≤_}
 use lib.ListN.{length, take, drop}
 use lib.Seq.{take-at}
-use lib.Dec.{leb, ltb, eqb}
-use borrow.Author.Tests.{ltb-false, ltb-true, le-ltb, le-leb, eqb-false}
-use Rattle.rules.specs.Forest.{Forest, width}
+use lib.Dec.{ltb, eqb}
+use borrow.Author.Tests.{ltb-false, le-ltb, le-leb, eqb-false}
+use Rattle.rules.specs.Forest.{Forest}
 use Rattle.rules.specs.Rule.{Rule}
-use Rattle.rules.specs.Parse.{Answer, got, trouble, pick, andThen, byteAt, parse, parseAll}
+use Rattle.rules.specs.Parse.{Answer, got, trouble, pick, andThen, parseAll}
 use Rattle.rules.specs.Record.{rowWords, count, records}
 use Rattle.rules.proofs.Forests.{length-records}
 use Rattle.rules.proofs.Run.{goes, on, got-goes, Goes}
-use Rattle.rules.proofs.Got.{trouble-got, false-true, got-same}
+use Rattle.rules.proofs.Got.{got-same}
 use Rattle.rules.proofs.Flow.{shut}
 use Rattle.rules.proofs.Stuck.{NotStuck, Refuses, never-stuck}
 use Rattle.jsx.specs.Refusal.{tooLong, notUtf8}
-use Rattle.jsx.specs.Byte.{need, end}
+use Rattle.jsx.specs.Byte.{need}
 use Rattle.jsx.specs.Blank.{blanks}
 use Rattle.jsx.specs.Utf8.{utf8}
 use Rattle.jsx.specs.Expression.{sibling, noSibling}
 use Rattle.jsx.specs.Element.{children}
-use Rattle.jsx.specs.Depth.{within}
 use Rattle.jsx.specs.Reading.{Limits, stage, run, answer}
 use Rattle.jsx.specs.Table.{Outcome, missing, accepted, refused, holds, written, checked, readInto, check, read}
 use Rattle.jsx.proofs.Goes.{within-goes}

@@ -1,22 +1,19 @@
 -- Both ends of each limit, the table's room, the words, the bytes of a record, and what the program prints.
 use Prim.Native.Nat.{ℕ, _+_, _<_, _≤_}
-use Prim.Native.Char.{code}
-use Prim.Native.String.{String}
-use mathlib.Core.Bool.{Bool, true, false}
-use mathlib.Core.Path.{_≡_, refl, ap}
-use mathlib.Core.List.{List, [], _∷_, _++_}
+use mathlib.Core.Bool.{true, false}
+use mathlib.Core.Path.{_≡_, refl}
+use mathlib.Core.List.{List, [], _∷_}
 use lib.ListN.{length, replicate}
-use lib.Dec.{ltb}
 use borrow.Author.Tests.{lt-ltb, le-ltb}
 use Rattle.rules.specs.Rule.{Rule}
-use Rattle.rules.specs.Parse.{Answer, trouble, pick, andThen, parseAll}
+use Rattle.rules.specs.Parse.{trouble, pick, andThen, parseAll}
 use Rattle.jsx.specs.Byte.{bytesOf}
 use Rattle.jsx.specs.Utf8.{utf8}
 use Rattle.jsx.specs.Word.{words, reserved, spared, strict, refusedWord}
 use Rattle.jsx.specs.Reading.{Limits, standard, stage, run, answer}
-use Rattle.jsx.specs.Table.{Outcome, Part, refused, missing, read, check, recordPart, spanPart, bytesIn}
+use Rattle.jsx.specs.Table.{Part, refused, missing, read, recordPart, spanPart, bytesIn}
 use Rattle.jsx.specs.Program.{output}
-use Rattle.jsx.proofs.Case.{Case, limited, counted, at, wrong, whole}
+use Rattle.jsx.proofs.Case.{limited, counted, at, wrong, whole}
 
 -- ---- the length
 

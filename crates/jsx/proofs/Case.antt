@@ -1,17 +1,16 @@
 -- How the definition is held against inputs whose answers document 01 gives: each case is computed.
 use Prim.Native.Nat.{ℕ, zero, suc, _*_}
 use Prim.Native.String as S
-use mathlib.Core.Bool.{Bool, true, false}
-use mathlib.Core.List.{List, [], _∷_, _++_}
+use mathlib.Core.Bool.{Bool}
+use mathlib.Core.List.{List, [], _∷_}
 use lib.ListN.{replicate}
-use lib.Dec.{eqb}
 use Rattle.rules.specs.Rule.{Rule}
 use Rattle.rules.specs.Parse.{Answer, pick}
-use Rattle.rules.specs.Record.{rowWords, row}
+use Rattle.rules.specs.Record.{rowWords}
 use Rattle.jsx.specs.Byte.{bytesOf}
 use Rattle.jsx.specs.Name.{same}
 use Rattle.jsx.specs.Reading.{Limits, standard, answer}
-use Rattle.jsx.specs.Table.{Outcome, missing, checked, readInto}
+use Rattle.jsx.specs.Table.{Outcome, checked, readInto}
 
 -- What an input is answered: a refusal with its two places; acceptance with so many records; or with just these rows.
 pub data Wanted : Type 0 where

@@ -1,24 +1,23 @@
 -- A child, taken apart: the end of the children, a text, or a node that ends in a token of its own.
 use mathlib.Core.Path.{_≡_, refl, sym, ap, subst, _∙_}
 use mathlib.Core.Bool.{Bool, true, false}
-use mathlib.Core.List.{List, [], _∷_, _++_}
-use Prim.Native.Nat.{ℕ, zero, suc, _+_, _≤_, _<_}
-use Prim.Native.Char.{Char, code}
-use native.Mathlib.Omega.{arith}
+use mathlib.Core.List.{List}
+use Prim.Native.Nat.{ℕ, zero, suc, _+_, _<_}
+use Prim.Native.Char.{code}
 use native.Mathlib.Nat.{le-refl}
-use lib.ListN.{length, getD}
+use lib.ListN.{length}
 use lib.Dec.{eqb, ltb}
-use borrow.Author.Tests.{ltb-true, ltb-false, lt-ltb, eqb-true, eqb-false, ne-eqb}
-use Rattle.rules.specs.Forest.{Label, node, content, Forest, nil, byte, group, _⋈_}
-use Rattle.rules.specs.Rule.{Test, Rule, here, done, stop, step, refuse, when, after, seq, many, wrap, nodeOf}
+use borrow.Author.Tests.{ltb-true, ltb-false, lt-ltb, eqb-true, ne-eqb}
+use Rattle.rules.specs.Forest.{Label, node, Forest, nil, byte, group, _⋈_}
+use Rattle.rules.specs.Rule.{Test, Rule, here, stop, step, refuse, when, after, wrap}
 use Rattle.rules.specs.Parse.{Answer, got, trouble, pick, andThen, behind, byteAt, repeat, parse}
 use Rattle.rules.proofs.Run.{goes, on as goes-on, Goes, got-goes, goes-repeat}
-use Rattle.rules.proofs.Got.{trouble-got, false-true, refusal-got, got-same, then-got, pick-case, going, wrap-read}
+use Rattle.rules.proofs.Got.{trouble-got, false-true, got-same, then-got, pick-case, wrap-read}
 use Rattle.rules.proofs.Local.{Looks, Then}
 use Rattle.rules.proofs.Deeper.{fails, nothing, Nothing}
 use Rattle.rules.proofs.Ends.{Turn, last, goon, turn}
 use Rattle.rules.proofs.Agree.{Lacks, byte-beyond}
-use Rattle.rules.proofs.Flow.{Mode, shut, tight, near, pend, same, near-pend, f-weak, f-stop, f-after}
+use Rattle.rules.proofs.Flow.{shut, pend, f-stop, f-after}
 use Rattle.rules.proofs.Reach.{reach}
 use Rattle.rules.proofs.Found.{Last, closes}
 use Rattle.jsx.specs.Kind as Kind
@@ -27,7 +26,7 @@ use Rattle.jsx.specs.Blank.{blanks, pass}
 use Rattle.jsx.specs.Text.{inText, text}
 use Rattle.jsx.specs.Braces.{childBracesIn, emptyBraces, spread, container}
 use Rattle.jsx.specs.Expression.{Inner}
-use Rattle.jsx.specs.Element.{child, children, fragmentIn, namedIn, elementIn, pairedOrNot}
+use Rattle.jsx.specs.Element.{child, fragmentIn, namedIn, elementIn, pairedOrNot}
 use Rattle.jsx.specs.Compose.{textLabel}
 use Rattle.jsx.specs.Depth.{elementTooDeep, noLevel, level, within}
 use Rattle.jsx.proofs.Goes.{within-goes}

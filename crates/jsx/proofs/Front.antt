@@ -1,22 +1,22 @@
 -- A run in front of something: its children are read the same, and a text at its end meets what follows.
 use mathlib.Core.Path.{_≡_, refl, sym, ap, subst, _∙_}
 use mathlib.Core.Bool.{Bool, true, false}
-use mathlib.Core.List.{List, [], _∷_, _++_}
+use mathlib.Core.List.{List, _++_}
 use Prim.Native.Nat.{ℕ, zero, suc, _+_, _≤_, _<_}
 use native.Mathlib.Omega.{arith}
 use native.Mathlib.Nat.{le-refl}
-use lib.ListN.{length, getD, length-append}
-use lib.Dec.{eqb, ltb}
+use lib.ListN.{length, length-append}
+use lib.Dec.{ltb}
 use borrow.Author.Tests.{ltb-true, ltb-false}
 use Rattle.rules.specs.Forest.{Label, node, Forest, nil, byte, group, _⋈_}
-use Rattle.rules.specs.Rule.{Rule, stop, step, when, many}
-use Rattle.rules.specs.Parse.{Answer, got, trouble, pick, behind, byteAt, repeat, parse}
+use Rattle.rules.specs.Rule.{Rule, many}
+use Rattle.rules.specs.Parse.{got, behind, byteAt, repeat, parse}
 use Rattle.rules.proofs.Forests.{behind-nil}
 use Rattle.rules.proofs.Got.{trouble-got, false-true}
 use Rattle.rules.proofs.Local.{Up, up, up-repeat, Looks, local-got}
 use Rattle.rules.proofs.Ends.{Top, top, top-got, top-repeat, Turn, last, goon, turn, turn-more, turn-last, refuel}
 use Rattle.rules.proofs.Agree.{Lacks, before, byte-in, Plain, byte-end, byte-beyond}
-use Rattle.rules.proofs.Flow.{Mode, shut, tight, near, same, tight-near, seen-near, advances, Flow, f-weak, f-stop, f-step, f-when, f-many}
+use Rattle.rules.proofs.Flow.{shut, near, same, tight-near, seen-near, advances, Flow, f-weak, f-stop, f-step, f-when, f-many}
 use Rattle.rules.proofs.Reach.{reach}
 use Rattle.rules.proofs.Found.{Last}
 use Rattle.rules.proofs.Joined.{meet, join, meet-right, join-left}
@@ -28,7 +28,7 @@ use Rattle.jsx.specs.Depth.{within}
 use Rattle.jsx.proofs.Pieces.{anyByte, anyNode}
 use Rattle.jsx.proofs.Paired.{wellPaired}
 use Rattle.jsx.proofs.Shape.{contentOf, closer}
-use Rattle.jsx.proofs.Child.{textNode, inner, text-in, tbody, TextByte, tstop, tstep, text-byte, byte-step, byte-stop, text-ends, OneNode, cbody, Child, ends, aText, other, child-of, text-child, end-stop}
+use Rattle.jsx.proofs.Child.{inner, text-in, tbody, TextByte, tstop, tstep, text-byte, byte-step, byte-stop, text-ends, cbody, Child, ends, aText, other, child-of, text-child, end-stop}
 
 -- The bytes of a text: no more is looked at than the byte behind them.
 texts-flow : Flow contentOf anyByte anyNode near (many inner) near near

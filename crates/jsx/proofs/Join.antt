@@ -2,13 +2,13 @@
 -- followed by the second's, moved along, except that a text meeting a text becomes one."
 use mathlib.Core.Path.{_≡_, refl, sym, ap, subst, _∙_}
 use mathlib.Core.Bool.{Bool, true, false}
-use mathlib.Core.List.{List, [], _∷_, _++_}
-use Prim.Native.Nat.{ℕ, zero, suc, _+_, _-_, _*_, _≤_, _<_}
+use mathlib.Core.List.{List, [], _++_}
+use Prim.Native.Nat.{ℕ, zero, suc, _+_, _-_, _*_, _≤_}
 use native.Mathlib.Omega.{arith}
-use lib.ListN.{length, take, drop, length-append}
-use Rattle.rules.specs.Forest.{Label, node, content, Forest, nil, byte, group, _⋈_, width}
-use Rattle.rules.specs.Parse.{Answer, got, byteAt, repeat, parse, parseAll}
-use Rattle.rules.specs.Record.{rowWords, count, records}
+use lib.ListN.{length, take, drop}
+use Rattle.rules.specs.Forest.{Forest, nil, _⋈_, width}
+use Rattle.rules.specs.Parse.{got, repeat, parse}
+use Rattle.rules.specs.Record.{rowWords, count}
 use Rattle.rules.proofs.Run.{wide-got}
 use Rattle.rules.proofs.Got.{trouble-got, false-true}
 use Rattle.rules.proofs.Ends.{top-got, Turn, last, goon, turn, turn-last}
@@ -22,7 +22,7 @@ use Rattle.jsx.specs.Depth.{within}
 use Rattle.jsx.specs.Reading.{Limits, run}
 use Rattle.jsx.specs.Table.{Outcome, missing, accepted, holds, check, read}
 use Rattle.jsx.proofs.Child.{end-stop, tbody, TextByte, tstop, tstep, text-byte, cbody, Child, ends, aText, other, child-of}
-use Rattle.jsx.proofs.Pieces.{Good, good-join, good-empty}
+use Rattle.jsx.proofs.Pieces.{good-join, good-empty}
 use Rattle.jsx.proofs.JoinRead.{Reads, run-of, run-is, join-reads}
 use Rattle.jsx.proofs.Few.{run-few}
 use Rattle.jsx.proofs.Accepted.{Accepted, run-proper, check-zero, accepted-check, rows-read}

@@ -1,16 +1,15 @@
 -- A run behind a run is a run: of readings.
-use mathlib.Core.Path.{_≡_, refl, sym, ap, subst, _∙_}
+use mathlib.Core.Path.{_≡_, refl, sym, ap, _∙_}
 use mathlib.Core.Bool.{Bool, true, false}
-use mathlib.Core.List.{List, [], _∷_, _++_}
-use Prim.Native.Nat.{ℕ, zero, suc, _+_, _-_, _≤_, _<_}
+use mathlib.Core.List.{List, _++_}
+use Prim.Native.Nat.{ℕ, suc, _+_, _≤_}
 use native.Mathlib.Omega.{arith}
 use native.Mathlib.Nat.{le-refl}
-use lib.ListN.{length, getD, length-append}
-use lib.Dec.{eqb, ltb}
+use lib.ListN.{length, length-append}
 use borrow.Author.Tests.{eqb-true}
 use Rattle.rules.specs.Forest.{Forest, nil, _⋈_}
-use Rattle.rules.specs.Rule.{Rule, done, refuse, when, seq, many, here}
-use Rattle.rules.specs.Parse.{Answer, got, trouble, pick, byteAt, repeat, parse, parseAll}
+use Rattle.rules.specs.Rule.{Rule, done, refuse, when, here}
+use Rattle.rules.specs.Parse.{got, trouble, pick, byteAt, parse, parseAll}
 use Rattle.rules.proofs.Forests.{behind-nil}
 use Rattle.rules.proofs.Run.{both-read}
 use Rattle.rules.proofs.Got.{trouble-got, got-same}
@@ -20,11 +19,10 @@ use Rattle.rules.proofs.Agree.{moved-along, byte-behind, Plain}
 use Rattle.rules.proofs.Joined.{join}
 use Rattle.jsx.specs.Refusal.{unexpected}
 use Rattle.jsx.specs.Byte.{end}
-use Rattle.jsx.specs.Element.{child, children}
+use Rattle.jsx.specs.Element.{children}
 use Rattle.jsx.specs.Compose.{textLabel}
 use Rattle.jsx.specs.Depth.{within}
 use Rattle.jsx.specs.Reading.{run}
-use Rattle.jsx.proofs.Child.{cbody}
 use Rattle.jsx.proofs.Front.{front}
 
 -- The rule reads the input, from its first byte on, as that forest.

@@ -1,15 +1,13 @@
 -- A node that its record calls paired has a content inside it, and a closing tag behind that.
-use mathlib.Core.Path.{_≡_, refl, sym, ap, subst, _∙_}
+use mathlib.Core.Path.{_≡_, refl, ap, _∙_}
 use mathlib.Core.Bool.{Bool, true, false}
 use mathlib.Core.List.{List}
-use Prim.Native.Nat.{ℕ, _+_, _≤_}
-use native.Mathlib.Omega.{arith}
+use Prim.Native.Nat.{ℕ}
 use lib.Dec.{eqb}
 use Rattle.rules.specs.Forest.{Label, node, content, Forest, nil, group, _⋈_, direct}
-use Rattle.rules.specs.Rule.{Rule, paired, wrap}
+use Rattle.rules.specs.Rule.{Rule, paired}
 use Rattle.rules.specs.Parse.{got, pick, parse}
-use Rattle.rules.specs.Record.{count}
-use Rattle.rules.proofs.Run.{goes, on, got-goes, never}
+use Rattle.rules.proofs.Run.{goes, on, got-goes}
 use Rattle.rules.proofs.Got.{false-true, wrap-read, PairOut, lone, full, pair-out}
 use Rattle.rules.proofs.Flow.{Fitting}
 use Rattle.jsx.specs.Kind as Kind

@@ -2,17 +2,16 @@
 -- limits: the stage stays accepted, inside stands the run's reading moved along, and outside only places and record numbers shift."
 use mathlib.Core.Path.{_≡_, refl, sym, ap, subst, _∙_}
 use mathlib.Core.Bool.{Bool, true, false}
-use mathlib.Core.List.{List, [], _∷_, _++_}
-use Prim.Native.Nat.{ℕ, zero, suc, _+_, _-_, _*_, _≤_, _<_}
-use Prim.Native.Char.{Char, code}
+use mathlib.Core.List.{List, _++_}
+use Prim.Native.Nat.{ℕ, suc, _+_, _*_, _≤_, _<_}
+use Prim.Native.Char.{code}
 use native.Mathlib.Omega.{arith}
 use native.Mathlib.Nat.{zero-add}
-use lib.ListN.{length, take, drop, getD}
-use lib.Dec.{eqb}
+use lib.ListN.{length, getD}
 use borrow.Author.Tests.{eqb-true}
-use Rattle.rules.specs.Forest.{Label, node, content, Forest, nil, group, _⋈_, width}
+use Rattle.rules.specs.Forest.{node, content, Forest, nil, group, _⋈_, width}
 use Rattle.rules.specs.Rule.{Rule}
-use Rattle.rules.specs.Parse.{Answer, got, pick, byteAt, repeat, parse, parseAll}
+use Rattle.rules.specs.Parse.{got, pick, byteAt, parse, parseAll}
 use Rattle.rules.specs.Record.{rowWords, count, records}
 use Rattle.rules.proofs.Run.{wide-got}
 use Rattle.rules.proofs.Ends.{top-got}
@@ -32,18 +31,17 @@ use Rattle.jsx.specs.Byte.{is, end}
 use Rattle.jsx.specs.Blank.{pass}
 use Rattle.jsx.specs.Element.{children}
 use Rattle.jsx.specs.Compose.{rowsOf, put, withDepth}
-use Rattle.jsx.specs.Depth.{within}
 use Rattle.jsx.specs.Reading.{Limits, stage, run}
-use Rattle.jsx.specs.Table.{Outcome, missing, accepted, check, word}
+use Rattle.jsx.specs.Table.{missing, word}
 use Rattle.jsx.proofs.Paired.{HasContent, pairedLabel, wellPaired}
 use Rattle.jsx.proofs.Shape.{contentOf, closer, L, stage-flow, run-flow}
-use Rattle.jsx.proofs.Child.{endOrAngle, cbody, stops-at, stops-before}
+use Rattle.jsx.proofs.Child.{endOrAngle, stops-at, stops-before}
 use Rattle.jsx.proofs.Cut.{Cut, at-end, behind-ascii, before-ascii, good-replace}
 use Rattle.jsx.proofs.JoinRead.{Reads}
 use Rattle.jsx.proofs.ReplaceRead.{replace-reads}
 use Rattle.jsx.proofs.Deep.{run-reads-deeper}
 use Rattle.jsx.proofs.Few.{run-few, stage-few}
-use Rattle.jsx.proofs.Accepted.{Accepted, Proper, stage-proper, run-proper, check-zero, accepted-check}
+use Rattle.jsx.proofs.Accepted.{Accepted}
 
 -- ---- where a content may be cut out
 

@@ -1,15 +1,15 @@
 -- The content of a paired element or of a fragment may be any run that is accepted with the depth that is left there: of readings.
 use mathlib.Core.Path.{_≡_, refl, sym, ap, subst, _∙_}
-use mathlib.Core.Bool.{Bool, true, false}
-use mathlib.Core.List.{List, [], _∷_, _++_}
-use Prim.Native.Nat.{ℕ, zero, suc, _+_, _-_, _≤_, _<_}
+use mathlib.Core.Bool.{true, false}
+use mathlib.Core.List.{List, _++_}
+use Prim.Native.Nat.{ℕ, suc, _+_, _-_, _≤_, _<_}
 use native.Mathlib.Omega.{arith}
 use native.Mathlib.Nat.{le-refl}
-use lib.ListN.{length, getD, take, drop, length-append, length-drop, take-append-drop}
+use lib.ListN.{length, take, drop, length-append, length-drop, take-append-drop}
 use lib.Seq.{length-take-le}
 use Rattle.rules.specs.Forest.{Forest, nil, width}
 use Rattle.rules.specs.Rule.{Rule}
-use Rattle.rules.specs.Parse.{Answer, got, byteAt, parse, parseAll}
+use Rattle.rules.specs.Parse.{got, byteAt, parse, parseAll}
 use Rattle.rules.proofs.Run.{wide-got}
 use Rattle.rules.proofs.Local.{local-got}
 use Rattle.rules.proofs.Ends.{top-got, sees, turn-last}

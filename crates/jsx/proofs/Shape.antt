@@ -1,28 +1,25 @@
 -- How far each rule of the language looks: a flow for each, from what may be entered one level deeper.
-use mathlib.Core.Path.{_≡_, refl, ap, subst, sym, _∙_}
-use mathlib.Core.Bool.{Bool, true, false}
-use mathlib.Core.List.{List, [], _∷_}
+use mathlib.Core.Path.{_≡_, refl, subst, sym}
+use mathlib.Core.Bool.{true, false}
 use Prim.Native.Nat.{ℕ, zero, suc}
 use Prim.Native.Char.{Char, code}
 use lib.Dec.{eqb}
 use borrow.Author.Tests.{eqb-true}
 use Rattle.rules.specs.Forest.{node}
-use Rattle.rules.specs.Rule.{Place, here, Test, Rule, done, stop, step, refuse, when, starts, after, seq, many, wrap, said, marked, paired}
-use Rattle.rules.specs.Parse.{pick, endOfInput}
+use Rattle.rules.specs.Rule.{Place, here, Test, Rule, stop, step, refuse, when, after, seq, many}
 use Rattle.rules.proofs.Run.{goes}
 use Rattle.rules.proofs.Moves.{moves}
-use Rattle.rules.proofs.Flow.{Mode, shut, tight, near, pend, _⊑_, same, shut-tight, shut-near, shut-pend, tight-near, tight-pend, near-pend, Seen, seen-near, seen-pend, clear, advances, lacking, Flow, f-weak, f-done, f-stop, f-step, f-refuse, f-when, f-expect, f-starts, f-after, f-seq, f-many, f-wrap, f-said, f-marked, f-paired, f-pass, f-last}
+use Rattle.rules.proofs.Flow.{Mode, shut, near, pend, same, shut-near, shut-pend, tight-near, near-pend, Seen, seen-near, seen-pend, clear, advances, lacking, Flow, f-weak, f-done, f-stop, f-step, f-refuse, f-when, f-expect, f-starts, f-after, f-seq, f-many, f-wrap, f-said, f-marked, f-paired, f-pass, f-last}
 use Rattle.jsx.specs.Kind as Kind
 use Rattle.jsx.specs.Refusal.{unexpected}
-use Rattle.jsx.specs.Byte.{bytesOf, is, end, _or_, letter, digit, quote, lineEnd, need, expect}
-use Rattle.jsx.specs.Blank.{blankByte, commentTurn, comment, lineTurn, lineComment, blank, blanks, pass}
-use Rattle.jsx.specs.Name.{opensName, inWord, inName, part, onePart, otherPart, namespaced, dottedPart, object, dotted, member, elementName, attributeName}
+use Rattle.jsx.specs.Byte.{is, _or_, digit, need, expect}
+use Rattle.jsx.specs.Blank.{commentTurn, comment, lineTurn, lineComment, blank, blanks, pass}
+use Rattle.jsx.specs.Name.{inWord, inName, part, onePart, otherPart, namespaced, dottedPart, object, dotted, member, elementName, attributeName}
 use Rattle.jsx.specs.Text.{inText, text, quotedTurn, quotedBy, quoted}
 use Rattle.jsx.specs.Word.{word, primaryWord, digits, whole, fraction, number, stringTurn, stringBy, string}
 use Rattle.jsx.specs.Expression.{Inner, sibling, noSibling, primary, postfixTurn, postfix, unary, joinedTurn, joined, times, plusMinus, andAnd, orOr, product, sum, both, either, question, conditional, expression, parenIn, bracketIn, argumentTurn, callIn, prefixIn, choiceIn}
 use Rattle.jsx.specs.Braces.{closeContainer, container, emptyBraces, dots, spread, childBracesIn, emptyValueBraces, valueBracesIn}
 use Rattle.jsx.specs.Tag.{value, initializer, namedAttribute, attribute, attributeTurn, attributes, tagEnd, openTag, openFragment, closeName, closeTag}
-use Rattle.jsx.specs.Closing.{verdict}
 use Rattle.jsx.specs.Element.{child, children, fragmentIn, namedIn, elementIn}
 use Rattle.jsx.specs.Depth.{elementTooDeep, noLevel, level, within}
 use Rattle.jsx.specs.Reading.{stage, run}

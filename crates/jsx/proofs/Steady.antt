@@ -2,10 +2,10 @@
 use mathlib.Core.Path.{_≡_, refl, sym, ap, subst, _∙_}
 use mathlib.Core.Bool.{Bool, true, false}
 use mathlib.Core.List.{List, [], _∷_}
-use Prim.Native.Nat.{ℕ, _+_}
+use Prim.Native.Nat.{ℕ}
 use native.Mathlib.Omega.{arith}
 use lib.Dec.{eqb}
-use Rattle.rules.specs.Forest.{Label, node, content, Forest, nil, byte, group, width, direct, inside}
+use Rattle.rules.specs.Forest.{Label, node, content, Forest, width, direct, inside}
 use Rattle.rules.specs.Rule.{Verdict, fine, differ}
 use Rattle.rules.specs.Parse.{pick}
 use Rattle.rules.proofs.Spots.{Spot, here, under, past, skip, fill, direct-fill, Inside, outer, inner, inside-fill}

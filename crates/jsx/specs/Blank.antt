@@ -1,5 +1,5 @@
 -- Blanks and comments. Chapter 'Bytes, blanks, comments'.
-use Rattle.rules.specs.Rule.{Test, Rule, stop, step, refuse, when, starts, seq, many, marked, here, mark, _⨾_, _⇒_∣_}
+use Rattle.rules.specs.Rule.{Test, Rule, stop, step, refuse, when, starts, many, marked, here, mark, _⨾_, _⇒_∣_}
 use Rattle.jsx.specs.Refusal.{unexpected, neverClosed}
 use Rattle.jsx.specs.Byte.{bytesOf, is, end, lineEnd, _or_}
 

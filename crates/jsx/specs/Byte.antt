@@ -2,7 +2,7 @@
 use Prim.Native.Nat.{ℕ, _+_, _/_, _%_}
 use Prim.Native.Char.{Char, code}
 use Prim.Native.String as S
-use mathlib.Core.Bool.{Bool, true, false}
+use mathlib.Core.Bool.{true, false}
 use mathlib.Core.List.{List, [], _∷_}
 use lib.Dec.{leb, ltb, eqb}
 use Rattle.rules.specs.Rule.{Test, Rule, step, refuse, when, here, _⇒_∣_}

@@ -1,6 +1,6 @@
 -- The levels. Chapter 'Inside braces', **Depth**.
 use Prim.Native.Nat.{ℕ, zero, suc}
-use Rattle.rules.specs.Rule.{Rule, refuse, when, seq, marked, here, mark, _⨾_, _⇒_∣_}
+use Rattle.rules.specs.Rule.{Rule, refuse, when, marked, here, mark, _⨾_, _⇒_∣_}
 use Rattle.jsx.specs.Refusal.{tooDeep}
 use Rattle.jsx.specs.Kind as Kind
 use Rattle.jsx.specs.Byte.{is, need, _or_}

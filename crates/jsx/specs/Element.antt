@@ -1,7 +1,7 @@
 -- Children, elements and fragments. Chapters 'Markup' and 'The table'.
 use Prim.Native.Nat.{ℕ}
-use Rattle.rules.specs.Forest.{Label, node, content, Forest, nil, byte, group}
-use Rattle.rules.specs.Rule.{Rule, stop, step, refuse, when, after, seq, many, wrap, paired, here, nodeOf, _⨾_, _⇒_∣_}
+use Rattle.rules.specs.Forest.{node, content, Forest, nil, byte, group}
+use Rattle.rules.specs.Rule.{Rule, stop, refuse, when, after, many, wrap, paired, here, nodeOf, _⇒_∣_}
 use Rattle.jsx.specs.Refusal.{strayInText}
 use Rattle.jsx.specs.Kind as Kind
 use Rattle.jsx.specs.Byte.{is, end}

@@ -1,6 +1,6 @@
 -- Expressions. Chapter 'Inside braces'. The levels are document 01's, each over what may be entered one level deeper.
 use Prim.Native.Nat.{ℕ}
-use Rattle.rules.specs.Rule.{Test, Rule, done, stop, step, refuse, when, starts, after, seq, many, here, thisByte, nodeOf, _⨾_, _⇒_∣_}
+use Rattle.rules.specs.Rule.{Test, Rule, done, stop, step, refuse, when, starts, after, many, here, thisByte, nodeOf, _⨾_, _⇒_∣_}
 use Rattle.jsx.specs.Refusal.{unexpected, adjacent}
 use Rattle.jsx.specs.Kind as Kind
 use Rattle.jsx.specs.Byte.{bytesOf, is, digit, quote, need, expect, _or_}

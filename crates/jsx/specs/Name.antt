@@ -4,8 +4,8 @@ use Prim.Native.Char.{Char, code}
 use mathlib.Core.Bool.{Bool, true, false}
 use mathlib.Core.List.{List, [], _∷_}
 use lib.Dec.{eqb}
-use Rattle.rules.specs.Forest.{Label, node, Forest, direct, inside}
-use Rattle.rules.specs.Rule.{Test, Rule, done, stop, step, refuse, when, after, seq, many, wrap, said, marked, fromMark, nodeOf, _⨾_, _⇒_∣_}
+use Rattle.rules.specs.Forest.{Label, node, direct, inside}
+use Rattle.rules.specs.Rule.{Test, Rule, done, stop, step, refuse, when, after, many, wrap, said, marked, fromMark, nodeOf, _⨾_, _⇒_∣_}
 use Rattle.rules.specs.Parse.{pick}
 use Rattle.jsx.specs.Refusal.{dashAfterDot}
 use Rattle.jsx.specs.Kind as Kind

@@ -1,9 +1,9 @@
 -- The two readings, and the order of the tests. Chapters 'The two readings', 'Bytes, blanks, comments', 'Refusal numbers'.
-use Prim.Native.Nat.{ℕ, suc}
+use Prim.Native.Nat.{ℕ}
 use mathlib.Core.List.{List}
 use lib.ListN.{length}
 use lib.Dec.{ltb}
-use Rattle.rules.specs.Rule.{Rule, done, refuse, when, seq, here, _⨾_, _⇒_∣_}
+use Rattle.rules.specs.Rule.{Rule, done, refuse, when, here, _⨾_, _⇒_∣_}
 use Rattle.rules.specs.Parse.{Answer, trouble, pick, andThen, parseAll}
 use Rattle.jsx.specs.Refusal.{tooLong, unexpected, afterStage}
 use Rattle.jsx.specs.Byte.{is, end, need}

@@ -1,7 +1,7 @@
 -- Check, read and the table; the bytes of a record. Chapters 'Refusal numbers' and 'The table'.
 use Prim.Native.Nat.{ℕ, _+_, _-_, _*_, _/_}
 use mathlib.Core.Bool.{Bool, true, false}
-use mathlib.Core.List.{List, [], _∷_, _++_}
+use mathlib.Core.List.{List, [], _++_}
 use lib.ListN.{length, take, drop, getD}
 use lib.Dec.{leb, ltb}
 use Rattle.rules.specs.Rule.{Rule}

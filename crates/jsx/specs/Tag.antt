@@ -1,5 +1,5 @@
 -- Attributes and tags. Chapters 'Markup' and 'The table'.
-use Rattle.rules.specs.Rule.{Rule, done, stop, when, after, seq, many, nodeOf, _⨾_, _⇒_∣_}
+use Rattle.rules.specs.Rule.{Rule, done, stop, when, after, many, nodeOf, _⨾_, _⇒_∣_}
 use Rattle.jsx.specs.Refusal.{unexpected}
 use Rattle.jsx.specs.Kind as Kind
 use Rattle.jsx.specs.Byte.{is, quote, need, expect, _or_}

@@ -1,6 +1,6 @@
 -- Texts and quoted attribute strings. Chapter 'Markup'.
 use Prim.Native.Char.{Char}
-use Rattle.rules.specs.Rule.{Test, Rule, stop, step, refuse, when, seq, many, marked, mark, nodeOf, _⨾_, _⇒_∣_}
+use Rattle.rules.specs.Rule.{Test, Rule, stop, step, refuse, when, many, marked, mark, nodeOf, _⨾_, _⇒_∣_}
 use Rattle.jsx.specs.Refusal.{neverClosed}
 use Rattle.jsx.specs.Kind as Kind
 use Rattle.jsx.specs.Byte.{is, end, _or_, none}

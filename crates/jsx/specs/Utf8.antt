@@ -1,6 +1,6 @@
 -- Well-formed UTF-8. Chapter 'Bytes, blanks, comments'.
 use Prim.Native.Nat.{ℕ}
-use Rattle.rules.specs.Rule.{Rule, stop, step, refuse, when, seq, many, marked, mark, _⨾_, _⇒_∣_}
+use Rattle.rules.specs.Rule.{Rule, stop, step, refuse, when, many, marked, mark, _⨾_, _⇒_∣_}
 use Rattle.jsx.specs.Refusal.{notUtf8}
 use Rattle.jsx.specs.Byte.{end, _‥_, _or_}
 

@@ -5,7 +5,7 @@ use Prim.Native.String.{String}
 use mathlib.Core.Bool.{Bool, true, false}
 use mathlib.Core.List.{List, [], _∷_, _++_}
 use Rattle.rules.specs.Forest.{direct}
-use Rattle.rules.specs.Rule.{Rule, done, stop, step, refuse, when, seq, many, said, marked, here, mark, _⨾_, _⇒_∣_}
+use Rattle.rules.specs.Rule.{Rule, done, stop, step, refuse, when, many, said, marked, here, mark, _⨾_, _⇒_∣_}
 use Rattle.rules.specs.Parse.{pick}
 use Rattle.jsx.specs.Refusal.{unexpected, neverClosed}
 use Rattle.jsx.specs.Byte.{bytesOf, is, end, digit, lineEnd, need, _or_}

@@ -7,15 +7,14 @@ use native.Mathlib.Nat.{not-suc-le-zero, le-of-suc-le-suc}
 use native.Mathlib.Omega.{arith}
 use native.Mathlib.Decide.{decLt}
 use lib.ListN.{length, getD, List·getD-eq-default}
-use lib.Dec.{eqb, ltb}
-use borrow.Author.Tests.{eq-eqb, ne-eqb, eqb-true, lt-ltb}
+use lib.Dec.{eqb}
+use borrow.Author.Tests.{eq-eqb, ne-eqb, lt-ltb}
 use Rattle.rules.specs.Forest.{Forest, nil, byte, _⋈_}
 use Rattle.rules.specs.Rule.{Rule, step, when, seq}
-use Rattle.rules.specs.Parse.{Answer, got, trouble, pick, andThen, behind, byteAt, opens, parse}
+use Rattle.rules.specs.Parse.{Answer, got, trouble, pick, behind, byteAt, opens, parse}
 use Rattle.rules.proofs.Run.{goes, on, got-goes}
-use Rattle.rules.proofs.Mark.{any-mark}
 use Rattle.jsx.specs.Byte.{need}
-use Rattle.lex.specs.Contract.{readAt, view, outOf, nothing, goneOn, Leaf, Past}
+use Rattle.lex.specs.Contract.{readAt, view, outOf, Leaf}
 use Rattle.lex.specs.declared.Ans.{Ans}
 use Rattle.lex.specs.declared.Ans.the-variants.{Got, No}
 

@@ -5,7 +5,7 @@ use mathlib.Core.Bool.{Bool, true}
 use mathlib.Core.List.{List, [], _∷_}
 use lib.ListN.{length, getD}
 use lib.Dec.{eqb}
-use Rattle.rules.specs.Forest.{Forest, nil, direct}
+use Rattle.rules.specs.Forest.{Forest, nil}
 use Rattle.rules.specs.Rule.{Rule, step, when, _⇒_∣_}
 use Rattle.rules.specs.Parse.{Answer, got, trouble, pick, parse}
 use Rattle.jsx.specs.Byte.{need}

@@ -1,14 +1,14 @@
 -- A rule that advances has passed a byte wherever it goes on.
-use mathlib.Core.Path.{_≡_, refl, sym, ap, subst, _∙_}
+use mathlib.Core.Path.{_≡_, refl, sym, _∙_}
 use mathlib.Core.Bool.{Bool, true, false}
 use mathlib.Core.List.{List}
-use Prim.Native.Nat.{ℕ, _+_, _≤_, _<_}
+use Prim.Native.Nat.{ℕ, _+_, _<_}
 use native.Mathlib.Omega.{arith}
 use lib.ListN.{length}
 use lib.Dec.{ltb}
 use Rattle.rules.specs.Forest.{Forest, nil, byte}
 use Rattle.rules.specs.Rule.{Rule, done, stop, step, refuse, when, starts, after, seq, many, wrap, said, marked, paired}
-use Rattle.rules.specs.Parse.{Answer, got, trouble, pick, byteAt, opens, parse}
+use Rattle.rules.specs.Parse.{got, trouble, pick, byteAt, opens, parse}
 use Rattle.rules.proofs.Run.{both, never}
 use Rattle.rules.proofs.Got.{trouble-got, false-true, refusal-got, got-same, then-got, pick-case, SeqOut, two, one, seq-read, SaidOut, so, otherwise, stopped, said-read, wrap-read, PairOut, lone, full, pair-out}
 use Rattle.rules.proofs.Local.{up-got}

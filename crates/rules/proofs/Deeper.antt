@@ -9,7 +9,7 @@ use Rattle.rules.specs.Forest.{Label, node, content, Forest, nil, byte, 
 use Rattle.rules.specs.Rule.{Test, Place, Verdict, fine, differ, Rule, done, stop, step, refuse, when, starts, after, seq, many, wrap, said, marked, paired}
 use Rattle.rules.specs.Parse.{Answer, got, trouble, pick, andThen, behind, byteAt, opens, judged, repeat, parse}
 use Rattle.rules.specs.Record.{row, count, records}
-use Rattle.rules.proofs.Run.{Then, then-if, then-then, then-any, then-behind, then-refusal, both, never, goes, on, Goes, GoesOn}
+use Rattle.rules.proofs.Run.{Then, then-if, then-then, then-any, then-behind, then-refusal, both, never, goes, on, Goes}
 use Rattle.rules.proofs.Moves.{one-of}
 use Rattle.rules.proofs.Flow.{clear}
 

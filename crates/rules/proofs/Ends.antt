@@ -1,15 +1,15 @@
 -- A reading stays in the input, looks no further than one place beyond it, and needs no more turns than places. For every grammar.
 use mathlib.Core.Path.{_≡_, refl, sym, ap, subst, _∙_}
 use mathlib.Core.Bool.{Bool, true, false}
-use mathlib.Core.List.{List, [], _∷_}
+use mathlib.Core.List.{List}
 use Prim.Native.Nat.{ℕ, zero, suc, _+_, _≤_, _<_}
 use native.Mathlib.Omega.{arith}
-use lib.ListN.{length, getD}
-use lib.Dec.{eqb, ltb}
+use lib.ListN.{length}
+use lib.Dec.{ltb}
 use borrow.Author.Tests.{ltb-true, lt-ltb}
-use Rattle.rules.specs.Forest.{Label, content, Forest, nil, byte, group, _⋈_}
+use Rattle.rules.specs.Forest.{Forest, nil, byte, _⋈_}
 use Rattle.rules.specs.Rule.{Rule, done, stop, step, refuse, when, starts, after, seq, many, wrap, said, marked, paired}
-use Rattle.rules.specs.Parse.{Answer, got, trouble, pick, andThen, behind, byteAt, opens, repeat, parse}
+use Rattle.rules.specs.Parse.{Answer, got, trouble, pick, behind, byteAt, opens, repeat, parse}
 use Rattle.rules.proofs.Run.{Then, Either, then-if, then-then, then-any, then-behind, then-refusal, then-judged, goes-repeat, Goes}
 use Rattle.rules.proofs.Got.{trouble-got, then-got, behind-out, got-same}
 use Rattle.rules.proofs.Local.{Up, up-repeat, LooksLoop, Looks}

@@ -7,11 +7,11 @@ use native.Mathlib.Omega.{arith}
 use lib.ListN.{length}
 use lib.Dec.{ltb}
 use borrow.Author.Tests.{ltb-true}
-use Rattle.rules.specs.Forest.{Forest, nil, _⋈_}
+use Rattle.rules.specs.Forest.{Forest, nil}
 use Rattle.rules.specs.Rule.{Test, Rule, stop, after, seq, many}
 use Rattle.rules.specs.Parse.{Answer, got, trouble, pick, andThen, behind, byteAt, repeat, parse}
 use Rattle.rules.proofs.Forests.{behind-nil}
-use Rattle.rules.proofs.Run.{Then, Either, then-if, then-any, behind-none, behind-behind, never, both, goes, on, Goes, GoesOn, goes-repeat, repeat-same}
+use Rattle.rules.proofs.Run.{Then, Either, behind-none, behind-behind, never, both, goes, on, Goes, goes-repeat, repeat-same}
 use Rattle.rules.proofs.Local.{Up, up, up-repeat}
 use Rattle.rules.proofs.Ends.{Top, top, turn-more, turn-last, turn-no, turn-stuck}
 use Rattle.rules.proofs.Moves.{moves, passes, Past}

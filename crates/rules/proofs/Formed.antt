@@ -1,12 +1,12 @@
 -- What holds of every node that a grammar makes.
-use mathlib.Core.Path.{_≡_, refl, sym, ap, subst, _∙_}
+use mathlib.Core.Path.{_≡_, sym, subst}
 use mathlib.Core.Bool.{Bool, true, false}
 use mathlib.Core.List.{List}
 use Prim.Native.Nat.{ℕ, zero, suc, _+_}
 use lib.ListN.{length}
 use lib.Dec.{ltb}
 use Rattle.rules.specs.Forest.{Label, node, content, Forest, nil, byte, group, _⋈_}
-use Rattle.rules.specs.Rule.{Test, Verdict, Rule, done, stop, step, refuse, when, starts, after, seq, many, wrap, said, marked, paired}
+use Rattle.rules.specs.Rule.{Test, Rule, step}
 use Rattle.rules.specs.Parse.{Answer, got, trouble, pick, byteAt, opens, repeat, parse}
 use Rattle.rules.proofs.Got.{trouble-got, refusal-got, got-same, then-got, pick-case, SeqOut, two, one, seq-read, SaidOut, so, otherwise, stopped, said-read, wrap-read, PairOut, lone, full, pair-out}
 use Rattle.rules.proofs.Ends.{Turn, last, goon, turn}

@@ -4,20 +4,18 @@ use mathlib.Core.Bool.{Bool, true, false}
 use mathlib.Core.List.{List}
 use Prim.Native.Nat.{ℕ, zero, suc, _+_, _≤_, _<_}
 use native.Mathlib.Omega.{arith}
-use native.Mathlib.Nat.{le-refl}
 use lib.ListN.{length}
 use lib.Dec.{ltb}
 use Rattle.rules.specs.Forest.{Label, node, content, Forest, nil, byte, group, _⋈_, width}
-use Rattle.rules.specs.Rule.{Test, Verdict, fine, Rule, done, stop, step, refuse, when, starts, after, seq, many, wrap, said, marked, paired}
-use Rattle.rules.specs.Parse.{Answer, got, trouble, pick, andThen, behind, byteAt, opens, judged, repeat, parse}
+use Rattle.rules.specs.Rule.{Test, Verdict, Rule, step, seq}
+use Rattle.rules.specs.Parse.{Answer, got, trouble, pick, byteAt, opens, repeat, parse}
 use Rattle.rules.proofs.Run.{goes, both, on, got-goes, goes-repeat, wide-got}
 use Rattle.rules.proofs.Got.{trouble-got, false-true, refusal-got, got-same, then-got, pick-case, going, SeqOut, two, one, seq-read, SaidOut, so, otherwise, stopped, said-read, wrap-read, PairOut, lone, full, pair-out}
-use Rattle.rules.proofs.Local.{up}
 use Rattle.rules.proofs.Ends.{Turn, last, goon, turn}
-use Rattle.rules.proofs.Spots.{Spot, here, under, past, skip, fill, start, Side, left, right, side, no-spot-nil}
-use Rattle.rules.proofs.Flow.{Mode, shut, tight, near, pend, _⊑_, same, shut-tight, shut-near, shut-pend, tight-near, tight-pend, near-pend, clear, IsNode, Steady, Fair, Flow, f-weak, f-done, f-stop, f-step, f-refuse, f-when, f-expect, f-starts, f-after, f-seq, f-many, f-wrap, f-said, f-marked, f-paired, f-pass, f-last}
+use Rattle.rules.proofs.Spots.{Spot, here, under, past, skip, start, Side, left, right, side, no-spot-nil}
+use Rattle.rules.proofs.Flow.{Mode, shut, tight, near, pend, _⊑_, same, shut-tight, shut-near, shut-pend, tight-near, tight-pend, near-pend, clear, IsNode, Flow, f-weak, f-done, f-stop, f-step, f-refuse, f-when, f-expect, f-starts, f-after, f-seq, f-many, f-wrap, f-said, f-marked, f-paired, f-pass, f-last}
 use Rattle.rules.proofs.Advance.{advance}
-use Rattle.rules.proofs.Reach.{Bound, bound-weak, step-got, Claim, reach}
+use Rattle.rules.proofs.Reach.{Bound, bound-weak, step-got, reach}
 
 module _ (C : ℕ → Rule) (Q : Test) (R : Label → Forest → Type 0) (s : List ℕ) (F : ℕ) where
   -- ---- the last byte

@@ -1,14 +1,13 @@
 -- An answer that got something, taken apart.
 use mathlib.Core.Path.{_≡_, refl, sym, ap, subst, _∙_}
 use mathlib.Core.Bool.{Bool, true, false}
-use mathlib.Core.List.{List, [], _∷_}
-use Prim.Native.Nat.{ℕ, zero, suc, _+_, _≤_, _<_}
+use mathlib.Core.List.{List}
+use Prim.Native.Nat.{ℕ}
 use native.Mathlib.Omega.{arith}
-use lib.ListN.{length, getD}
-use Rattle.rules.specs.Forest.{Label, node, content, Forest, nil, byte, group, _⋈_, width}
+use Rattle.rules.specs.Forest.{Label, content, Forest, nil, group, _⋈_}
 use Rattle.rules.specs.Rule.{Place, here, mark, fromMark, thisByte, Verdict, fine, differ, Rule, seq, wrap, said, paired}
-use Rattle.rules.specs.Parse.{Answer, got, trouble, pick, andThen, behind, refusal, judged, repeat, parse}
-use Rattle.rules.proofs.Run.{Then, Either, goes, on, Goes, got-goes}
+use Rattle.rules.specs.Parse.{Answer, got, trouble, pick, andThen, behind, refusal, judged, parse}
+use Rattle.rules.proofs.Run.{Then, Either, goes, on, got-goes}
 
 pub trouble-got : {X : Type 0} {n a b c d p : ℕ} {g : Bool} {o : Forest} → trouble n a b c d ≡ got g o p → X
 trouble-got {X} h = let z : _≡_ {A = ℕ} 0 1 = cc in absurd (omega arith)

@@ -1,24 +1,23 @@
 -- Another content in the place of a content: an input that is the same before it, reads something else by C there, and is the same behind it, is read the same but for that.
 use mathlib.Core.Path.{_≡_, refl, sym, ap, subst, _∙_}
 use mathlib.Core.Bool.{Bool, true, false}
-use mathlib.Core.List.{List, [], _∷_, _++_}
+use mathlib.Core.List.{List}
 use Prim.Native.Nat.{ℕ, zero, suc, _+_, _≤_, _<_}
 use native.Mathlib.Omega.{arith}
 use native.Mathlib.Nat.{le-refl}
 use lib.ListN.{length}
-use lib.Dec.{ltb}
-use Rattle.rules.specs.Forest.{Label, node, content, Forest, nil, byte, group, _⋈_, width}
-use Rattle.rules.specs.Rule.{Test, Verdict, fine, Rule, done, stop, step, refuse, when, starts, after, seq, many, wrap, said, marked, paired}
-use Rattle.rules.specs.Parse.{Answer, got, trouble, pick, andThen, behind, byteAt, opens, judged, repeat, parse}
-use Rattle.rules.proofs.Run.{goes, wide-got, wide, Wide, wide-repeat, got-goes, goes-repeat}
-use Rattle.rules.proofs.Got.{trouble-got, false-true, refusal-got, got-same, then-got, pick-case, going, SeqOut, two, one, seq-read, SaidOut, so, otherwise, stopped, said-read, wrap-read, PairOut, lone, full, pair-out}
-use Rattle.rules.proofs.Local.{Up, up, up-got, Looks, local-got}
+use Rattle.rules.specs.Forest.{Label, node, content, Forest, nil, group, _⋈_, width}
+use Rattle.rules.specs.Rule.{Test, Verdict, fine, Rule, step, seq, many, wrap, said, paired}
+use Rattle.rules.specs.Parse.{Answer, got, pick, andThen, behind, byteAt, opens, repeat, parse}
+use Rattle.rules.proofs.Run.{wide-got, wide, Wide, wide-repeat, got-goes, goes-repeat}
+use Rattle.rules.proofs.Got.{trouble-got, refusal-got, got-same, then-got, going, SeqOut, two, one, seq-read, SaidOut, so, otherwise, stopped, said-read, wrap-read, PairOut, lone, full, pair-out}
+use Rattle.rules.proofs.Local.{up, up-got, Looks, local-got}
 use Rattle.rules.proofs.Ends.{Top, top, top-got, top-repeat, sees, Turn, last, goon, turn, turn-more, turn-last, refuel}
 use Rattle.rules.proofs.Agree.{Lacks, before, moved-along}
-use Rattle.rules.proofs.Spots.{Spot, here, under, past, skip, fill, start, Side, left, right, side, no-spot-nil, fits}
-use Rattle.rules.proofs.Flow.{Mode, shut, near, pend, _⊑_, clear, lacking-lacks, IsNode, Steady, Fair, Flow, f-weak, f-done, f-stop, f-step, f-refuse, f-when, f-expect, f-starts, f-after, f-seq, f-many, f-wrap, f-said, f-marked, f-paired, f-pass, f-last}
+use Rattle.rules.proofs.Spots.{Spot, here, under, past, fill, start, Side, left, right, side, no-spot-nil, fits}
+use Rattle.rules.proofs.Flow.{Mode, lacking-lacks, IsNode, Steady, Fair, Flow, f-weak, f-done, f-stop, f-step, f-refuse, f-when, f-expect, f-starts, f-after, f-seq, f-many, f-wrap, f-said, f-marked, f-paired, f-pass, f-last}
 use Rattle.rules.proofs.Reach.{Bound, bound-above, reach}
-use Rattle.rules.proofs.Found.{Last, last-weak, closes, none, none-step, all-loop, There, found}
+use Rattle.rules.proofs.Found.{Last, last-weak, closes, none, none-step, all-loop, found}
 
 -- One of two by a test, where the test comes out the same.
 pick-both : (R : Answer → Type 0) (b b′ : Bool) (x y x′ y′ : Answer) {a : Bool} {o : Forest} {q : ℕ} → b ≡ b′ → pick b x y ≡ got a o q → (x ≡ got a o q → R x′) → (y ≡ got a o q → R y′) → R (pick b′ x′ y′)

@@ -1,11 +1,11 @@
 -- Marks never matter to what is got: they only say where a refusal points. For every grammar.
-use mathlib.Core.Path.{_≡_, refl, sym, ap, subst, _∙_}
+use mathlib.Core.Path.{_≡_, refl, sym, ap, subst}
 use mathlib.Core.Bool.{Bool, true, false}
 use mathlib.Core.List.{List}
 use Prim.Native.Nat.{ℕ, zero, suc, _+_}
 use lib.ListN.{length}
 use lib.Dec.{ltb}
-use Rattle.rules.specs.Forest.{Label, content, Forest, nil, byte, group, _⋈_}
+use Rattle.rules.specs.Forest.{content, Forest, nil, byte, group, _⋈_}
 use Rattle.rules.specs.Rule.{Rule, done, stop, step, refuse, when, starts, after, seq, many, wrap, said, marked, paired}
 use Rattle.rules.specs.Parse.{Answer, got, trouble, pick, andThen, behind, byteAt, opens, judged, repeat, parse}
 use Rattle.rules.proofs.Run.{Then, then-refusal}

@@ -4,10 +4,8 @@ use mathlib.Core.Logic.{_≢_}
 use mathlib.Core.List.{List, _++_}
 use Prim.Native.Nat.{ℕ, _+_, _≤_, _<_}
 use native.Mathlib.Omega.{arith}
-use lib.Dec.{eqb}
 use borrow.Author.Tests.{eq-eqb, ne-eqb}
 use Rattle.rules.specs.Forest.{node, content, Forest, nil, byte, group, width}
-use Rattle.rules.specs.Parse.{pick}
 use Rattle.rules.specs.Record.{count, records}
 use Rattle.rules.proofs.Forests.{records-same}
 use Rattle.rules.proofs.Rows.{Row, words, eachRow, Table, table-records, row-same, eachRow-append}

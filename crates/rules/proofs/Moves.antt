@@ -1,12 +1,12 @@
 -- Rules that pass a byte wherever they read something.
-use mathlib.Core.Path.{_≡_, refl, sym, ap, subst, _∙_}
+use mathlib.Core.Path.{_≡_, refl, subst}
 use mathlib.Core.Bool.{Bool, true, false}
 use mathlib.Core.List.{List}
-use Prim.Native.Nat.{ℕ, zero, suc, _+_, _≤_, _<_}
+use Prim.Native.Nat.{ℕ, _≤_, _<_}
 use native.Mathlib.Omega.{arith}
 use lib.ListN.{length}
 use lib.Dec.{ltb}
-use Rattle.rules.specs.Forest.{Label, content, Forest, nil, byte, group, _⋈_}
+use Rattle.rules.specs.Forest.{Forest}
 use Rattle.rules.specs.Rule.{Rule, done, stop, step, refuse, when, starts, after, seq, many, wrap, said, marked, paired}
 use Rattle.rules.specs.Parse.{Answer, got, trouble, pick, andThen, behind, byteAt, opens, parse}
 use Rattle.rules.proofs.Run.{Then, then-if, then-then, then-any, then-behind, then-refusal, then-judged, both, never, goes, on, Goes}

@@ -4,17 +4,15 @@ use mathlib.Core.Bool.{Bool, true, false}
 use mathlib.Core.List.{List}
 use Prim.Native.Nat.{ℕ, zero, suc, _+_, _≤_, _<_}
 use native.Mathlib.Omega.{arith}
-use native.Mathlib.Nat.{le-refl}
 use lib.ListN.{length}
 use lib.Dec.{ltb}
-use borrow.Author.Tests.{ltb-true}
-use Rattle.rules.specs.Forest.{Label, Forest, nil, byte, group, content, _⋈_}
-use Rattle.rules.specs.Rule.{Test, Verdict, Rule, done, stop, step, refuse, when, starts, after, seq, many, wrap, said, marked, paired}
-use Rattle.rules.specs.Parse.{Answer, got, trouble, pick, andThen, behind, byteAt, opens, judged, repeat, parse}
+use Rattle.rules.specs.Forest.{Label, Forest, nil, byte}
+use Rattle.rules.specs.Rule.{Test, Verdict, Rule, step, seq}
+use Rattle.rules.specs.Parse.{Answer, got, trouble, pick, behind, byteAt, opens, repeat, parse}
 use Rattle.rules.proofs.Run.{goes, Then, Either, on, got-goes, goes-repeat}
-use Rattle.rules.proofs.Got.{trouble-got, false-true, refusal-got, got-same, then-got, behind-got, pick-case, either-got, then-is, going, SeqOut, two, one, seq-read, SaidOut, so, otherwise, stopped, said-read, wrap-read, PairOut, lone, full, pair-out}
+use Rattle.rules.proofs.Got.{trouble-got, false-true, refusal-got, got-same, then-got, behind-got, then-is, going, SeqOut, two, one, seq-read, SaidOut, so, otherwise, stopped, said-read, wrap-read, PairOut, lone, full, pair-out}
 use Rattle.rules.proofs.Mark.{any-mark}
-use Rattle.rules.proofs.Local.{Up, up, up-got, up-repeat, LooksLoop, Looks}
+use Rattle.rules.proofs.Local.{LooksLoop, Looks}
 use Rattle.rules.proofs.Agree.{Lacks}
 use Rattle.rules.proofs.Flow.{lacking-lacks, Mode, shut, tight, near, pend, _⊑_, same, shut-tight, shut-near, shut-pend, tight-near, tight-pend, near-pend, Seen, seen-near, seen-pend, Flow, f-weak, f-done, f-stop, f-step, f-refuse, f-when, f-expect, f-starts, f-after, f-seq, f-many, f-wrap, f-said, f-marked, f-paired, f-pass, f-last}
 

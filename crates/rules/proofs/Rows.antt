@@ -1,6 +1,6 @@
 -- Tables taken row by row.
 use mathlib.Core.Path.{_≡_, refl, ap, _∙_}
-use mathlib.Core.List.{List, [], _∷_, _++_}
+use mathlib.Core.List.{List, [], _++_}
 use Prim.Native.Nat.{ℕ, _+_}
 use Rattle.rules.specs.Forest.{node, content, Forest, nil, byte, group, width}
 use Rattle.rules.specs.Record.{row, count, records}

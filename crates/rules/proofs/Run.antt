@@ -1,13 +1,13 @@
 -- Laws of the interpreter, for every grammar.
 use mathlib.Core.Path.{_≡_, refl, sym, ap, subst, _∙_}
 use mathlib.Core.Bool.{Bool, true, false}
-use mathlib.Core.List.{List, [], _∷_}
-use Prim.Native.Nat.{ℕ, zero, suc, _+_, _*_, _≤_, _<_}
+use mathlib.Core.List.{List}
+use Prim.Native.Nat.{ℕ, zero, suc, _+_, _≤_, _<_}
 use native.Mathlib.Omega.{arith}
-use lib.ListN.{length, getD}
-use lib.Dec.{eqb, ltb}
+use lib.ListN.{length}
+use lib.Dec.{ltb}
 use borrow.Author.Tests.{lt-ltb}
-use Rattle.rules.specs.Forest.{Label, node, content, Forest, nil, byte, group, _⋈_, width}
+use Rattle.rules.specs.Forest.{content, Forest, nil, byte, group, _⋈_, width}
 use Rattle.rules.specs.Rule.{Place, here, mark, fromMark, thisByte, Verdict, fine, differ, Rule, done, stop, step, refuse, when, starts, after, seq, many, wrap, said, marked, paired}
 use Rattle.rules.specs.Parse.{Answer, got, trouble, pick, andThen, behind, byteAt, opens, refusal, judged, repeat, parse}
 use Rattle.rules.proofs.Forests.{behind-nil, behind-assoc, width-behind}

@@ -3,7 +3,7 @@ use mathlib.Core.Path.{_≡_, refl, sym, ap}
 use mathlib.Core.List.{List, _∷_}
 use Prim.Native.Nat.{ℕ, suc, _+_, _≤_}
 use native.Mathlib.Omega.{arith}
-use Rattle.rules.specs.Forest.{Label, node, content, Forest, nil, byte, group, _⋈_, width, direct, inside}
+use Rattle.rules.specs.Forest.{node, content, Forest, nil, byte, group, _⋈_, width, direct, inside}
 use Rattle.rules.specs.Record.{count}
 pub use Rattle.rules.specs.Replaced.{Spot, here, under, past, skip}
 unfoldable pub use Rattle.rules.specs.Replaced.{fill, start}

@@ -1,6 +1,6 @@
 -- One forest behind the other, but that a text and a text that meet become one. Which groups are texts is a parameter.
 use Prim.Native.Nat.{ℕ}
-use mathlib.Core.Bool.{Bool, true, false}
+use mathlib.Core.Bool.{Bool, false}
 use mathlib.Core.List.{List, [], _∷_}
 use Rattle.rules.specs.Forest.{Label, Forest, nil, byte, group, _⋈_}
 use Rattle.rules.specs.Parse.{pick}

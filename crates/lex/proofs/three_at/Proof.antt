@@ -1,7 +1,5 @@
-use mathlib.Core.Path.{_≡_, refl, sym, ap, subst, _∙_}
+use mathlib.Core.Path.{sym, _∙_}
 use native.Mathlib.Omega.{arith}
-use lib.ListN.{length, List·getD-eq-default}
-use lib.Dec.{eqb}
 use borrow.Author.Needs.{needs}
 use Rattle.lex.proofs.Laws
 use Rattle.lex.proofs.three_at.Statement.{statement}
