@@ -1,0 +1,88 @@
+-- A rule that makes no group reads bytes alone: what it read are the input's bytes there. For every grammar.
+use mathlib.Core.Path.{_≡_, refl, sym, ap, subst, _∙_}
+use mathlib.Core.Bool.{Bool, true, false}
+use mathlib.Core.List.{List, _∷_}
+use Prim.Native.Nat.{ℕ, zero, suc, _+_, _-_}
+use native.Mathlib.Omega.{arith}
+use lib.ListN.{length}
+use lib.Dec.{ltb}
+use Rattle.rules.specs.Forest.{Forest, nil, byte, group, _⋈_, width, direct}
+use Rattle.rules.specs.Rule.{Rule, done, stop, step, refuse, when, starts, after, seq, many, wrap, said, marked, paired}
+use Rattle.rules.specs.Parse.{Answer, got, pick, behind, byteAt, opens, repeat, parse}
+use Rattle.rules.proofs.Run.{Then, Lies, never, both, then-if, then-any, then-then, then-behind, then-refusal, wide-got, lies-got}
+use Rattle.lex.specs.Contract.{part}
+
+unfoldable pub bare : Rule → Bool
+bare done = true
+bare stop = true
+bare step = true
+bare (refuse n w) = true
+bare (when f t u) = pick (bare t) (bare u) false
+bare (starts w t u) = pick (bare t) (bare u) false
+bare (after r f t u) = pick (bare t) (bare u) false
+bare (seq t u) = pick (bare t) (bare u) false
+bare (many t) = bare t
+bare (wrap f t) = false
+bare (said f r t u) = pick (bare r) (pick (bare t) (bare u) false) false
+bare (marked t) = bare t
+bare (paired t d c u v) = false
+
+-- Bytes alone.
+abbrev pub Flat : Forest → Type 0
+Flat nil = Unit {0}
+Flat (byte b u) = Flat u
+Flat (group l c u) = ⊥
+
+flat-join : (u v : Forest) → Flat u → Flat v → Flat (u ⋈ v)
+unfolding _⋈_
+flat-join nil v h k = k
+flat-join (byte b u) v h k = flat-join u v h k
+flat-join (group l c u) v h k = absurd h
+
+abbrev FlatTo : Bool → Forest → ℕ → Type 0
+FlatTo a o p = Flat o
+
+flat-behind : (u : Forest) (x : Answer) → Flat u → Then x FlatTo → Then (behind u x) FlatTo
+flat-behind u x h k = then-behind FlatTo FlatTo u x k (λ a o p g. flat-join u o h g)
+
+flat-repeat : (body : ℕ → Answer) → ((at : ℕ) → Then (body at) FlatTo) → (f at : ℕ) → Then (repeat body f at) FlatTo
+unfolding repeat
+flat-repeat body h zero at = tt
+flat-repeat body h (suc f) at = then-then FlatTo FlatTo (body at) _ (h at)
+    (λ a o p w. then-if FlatTo a _ _ (then-if FlatTo (ltb at p) _ _ (flat-behind o (repeat body f p) w (flat-repeat body h f p)) tt) w)
+
+module _ (s : List ℕ) (F : ℕ) where
+  flat : (t : Rule) → bare t ≡ true → (e at : ℕ) → Then (parse s F t e at) FlatTo
+  unfolding parse bare
+  flat done h e at = tt
+  flat stop h e at = tt
+  flat step h e at = then-if FlatTo (ltb at (length s)) _ _ tt tt
+  flat (refuse n w) h e at = then-refusal FlatTo n w e at
+  flat (when f t u) h e at = let g = both (bare t) (bare u) h in then-if FlatTo (f (byteAt s at)) _ _ (flat t (g .0) e at) (flat u (g .1) e at)
+  flat (starts w t u) h e at = let g = both (bare t) (bare u) h in then-if FlatTo (opens s w at) _ _ (flat t (g .0) e at) (flat u (g .1) e at)
+  flat (after r f t u) h e at = let g = both (bare t) (bare u) h in
+      then-any FlatTo (parse s F r e at) _ (λ a o p. then-if FlatTo (f (byteAt s p)) _ _ (flat t (g .0) e at) (flat u (g .1) e at))
+  flat (seq t u) h e at = let g = both (bare t) (bare u) h in
+      then-then FlatTo FlatTo (parse s F t e at) _ (flat t (g .0) e at) (λ a o p w. then-if FlatTo a _ _ (flat-behind o (parse s F u e p) w (flat u (g .1) e p)) w)
+  flat (many t) h e at = flat-repeat (parse s F t e) (λ p. flat t h e p) F at
+  flat (wrap f t) h e at = never h
+  flat (said f r t u) h e at =
+      let g = both (bare r) (pick (bare t) (bare u) false) h in
+      let k = both (bare t) (bare u) (g .1) in
+      then-then FlatTo FlatTo (parse s F r e at) _ (flat r (g .0) e at)
+      (λ a o p w. then-if FlatTo a _ _ (flat-behind o (pick (f o) (parse s F t e p) (parse s F u e p)) w (then-if FlatTo (f o) (parse s F t e p) (parse s F u e p) (flat t (k .0) e p) (flat u (k .1) e p))) w)
+  flat (marked t) h e at = flat t h at at
+  flat (paired t d c u v) h e at = never h
+
+direct-part : (s : List ℕ) (u : Forest) (at : ℕ) → Flat u → Lies s at u → direct u ≡ part s at (width u)
+unfolding direct width part
+direct-part s nil at h l = refl
+direct-part s (byte b u) at h l = λ i. sym (l .0) i ∷ direct-part s u (at + 1) h (l .1) i
+direct-part s (group k c u) at h l = absurd h
+
+-- What such a rule read from `at` to p are the bytes from `at` to p.
+pub bare-part : (s : List ℕ) (F : ℕ) (t : Rule) → bare t ≡ true → (e at : ℕ) {a : Bool} {o : Forest} {p : ℕ} → parse s F t e at ≡ got a o p → direct o ≡ part s at (p - at)
+bare-part s F t h e at {a} {o} {p} g =
+    let w = wide-got s F t e at g in
+    let k : width o ≡ p - at = omega arith in
+    direct-part s o at (subst (λ (x : Answer). Then x FlatTo) g (flat s F t h e at)) (lies-got s F t e at g) ∙ ap (part s at) k

@@ -1,0 +1,161 @@
+-- The table of refused words has the words that the definition refuses, and no other.
+use mathlib.Core.Path.{_≡_, refl, sym, ap, subst, _∙_}
+use mathlib.Core.Bool.{Bool, true, false}
+use mathlib.Core.List.{List, [], _∷_}
+use Prim.Native.Nat.{ℕ, zero, suc, _+_, _-_, _≤_, _<_}
+use native.Mathlib.Omega.{arith}
+use native.Mathlib.Decide.{decLt}
+use lib.ListN.{length, getD}
+use lib.Dec.{eqb, leb}
+use borrow.Author.Tests.{eq-eqb, ne-eqb, eqb-true, leb-true}
+use Rattle.rules.specs.Parse.{pick, byteAt}
+use Rattle.rules.proofs.Run.{never, both}
+use Rattle.jsx.specs.Name.{same}
+use Rattle.jsx.specs.Word.{onFirst, cut, words, among, reserved, spared, strict, refusedWord}
+use Rattle.lex.specs.Contract.{part}
+use Rattle.word.specs.Table.{cells, each, upTo, row, known, sound, complete, good}
+
+pub length-part : (s : List ℕ) (a n : ℕ) → length (part s a n) ≡ n
+unfolding part
+length-part s a zero = refl
+length-part s a (suc n) = ap suc (length-part s (a + 1) n)
+
+-- ---- two words, byte by byte
+
+abbrev pub sameFrom : (t s : List ℕ) (n k a : ℕ) → Bool
+sameFrom t s n k a = same (part t k n) (part s a n)
+
+pub same-start : (t s : List ℕ) (n k a : ℕ) → sameFrom t s n k a ≡ sameFrom t s (n - 0) (k + 0) (a + 0)
+same-start t s n k a =
+    let e : n ≡ n - 0 = omega arith in
+    let f : k ≡ k + 0 = omega arith in
+    let g : a ≡ a + 0 = omega arith in
+    λ i. sameFrom t s (e i) (f i) (g i)
+
+module _ (t s : List ℕ) {E : Bool} (n k a i : ℕ) where
+  pub same-more : i < n → byteAt t (k + i) ≡ byteAt s (a + i) → E ≡ sameFrom t s (n - i) (k + i) (a + i) → E ≡ sameFrom t s (n - (i + 1)) (k + (i + 1)) (a + (i + 1))
+  unfolding same part
+  same-more h e f =
+      let j : n - i ≡ suc (n - (i + 1)) = omega arith in
+      let jk : k + (i + 1) ≡ k + i + 1 = omega arith in
+      let ja : a + (i + 1) ≡ a + i + 1 = omega arith in
+      rw (jk, ja) (simp (j, eq-eqb _ _ e) at f)
+
+  pub same-differ : i < n → (byteAt t (k + i) ≡ byteAt s (a + i) → ⊥) → E ≡ sameFrom t s (n - i) (k + i) (a + i) → E ≡ false
+  unfolding same part
+  same-differ h e f =
+      let j : n - i ≡ suc (n - (i + 1)) = omega arith in
+      simp (j, ne-eqb _ _ e) at f
+
+  pub same-end : n ≤ i → E ≡ sameFrom t s (n - i) (k + i) (a + i) → E ≡ true
+  unfolding same part
+  same-end h f = let j : n - i ≡ 0 = omega arith in simp j at f
+
+-- ---- a word among some of its length
+
+module _ (t w : List ℕ) {E : Bool} (p n c i : ℕ) (e : E ≡ among (cells t p n (c - i)) w) where
+  pub among-more : i < c → same (part t p n) w ≡ false → E ≡ among (cells t (p + n + 1) n (c - (i + 1))) w
+  unfolding among cells
+  among-more h f = let j : c - i ≡ suc (c - (i + 1)) = omega arith in simp (j, f) at e
+
+  pub among-found : i < c → same (part t p n) w ≡ true → E ≡ true
+  unfolding among cells
+  among-found h f = let j : c - i ≡ suc (c - (i + 1)) = omega arith in simp (j, f) at e
+
+  pub among-end : c ≤ i → E ≡ false
+  unfolding among cells
+  among-end h = let j : c - i ≡ 0 = omega arith in simp j at e
+
+-- ---- a test that every word of a list passes
+
+same-is : (u v : List ℕ) → same u v ≡ true → u ≡ v
+unfolding same
+same-is [] [] h = refl
+same-is [] (b ∷ v) h = never h
+same-is (a ∷ u) [] h = never h
+same-is (a ∷ u) (b ∷ v) h = let g = both (eqb a b) (same u v) h in λ i. eqb-true a b (g .0) i ∷ same-is u v (g .1) i
+
+each-at : (P : List ℕ → Bool) (l : List (List ℕ)) (w : List ℕ) → each P l ≡ true → among l w ≡ true → P w ≡ true
+unfolding each among
+each-at P [] w h g = never g
+each-at P (v ∷ vs) w h g = go (same v w) refl (each-at P vs w (both (P v) (each P vs) h .1)) g
+  where
+    go : (b : Bool) → same v w ≡ b → (among vs w ≡ true → P w ≡ true) → pick b true (among vs w) ≡ true → P w ≡ true
+    go true e k f = subst (λ (x : List ℕ). P x ≡ true) (same-is v w e) (both (P v) (each P vs) h .0)
+    go false e k f = k f
+
+up-at : (P : ℕ → Bool) (k n : ℕ) → upTo P k ≡ true → n < k → P n ≡ true
+unfolding upTo
+up-at P zero n h i = absurd (omega arith)
+up-at P (suc k) n h i = go (up-at P k n (both (P k) (upTo P k) h .1)) (decLt n k)
+  where
+    go : (n < k → P n ≡ true) → Dec (n < k) → P n ≡ true
+    go f (yes j) = f j
+    go f (no j) = let e : k ≡ n = omega arith in subst (λ (x : ℕ). P x ≡ true) e (both (P k) (upTo P k) h .0)
+
+-- A word that is in neither list is not refused.
+free : (w : List ℕ) → (among reserved w ≡ true → among spared w ≡ false → ⊥) → (among strict w ≡ true → among spared w ≡ false → ⊥) → refusedWord w ≡ false
+unfolding refusedWord
+free w f g = go (among spared w) (among reserved w) (among strict w) f g
+  where
+    go : (x y z : Bool) → (y ≡ true → x ≡ false → ⊥) → (z ≡ true → x ≡ false → ⊥) → pick x false (pick y true z) ≡ false
+    go true y z f g = refl
+    go false true z f g = absurd (f refl refl)
+    go false false true f g = absurd (g refl refl)
+    go false false false f g = refl
+
+-- ---- no refused word is longer than 10 bytes
+
+short : List ℕ → Bool
+short w = leb (length w) 10
+
+reserved-short : each short reserved ≡ true
+unfolding each short reserved words cut onFirst
+reserved-short = refl
+
+strict-short : each short strict ≡ true
+unfolding each short strict words cut onFirst
+strict-short = refl
+
+pub refused-long : (s : List ℕ) (a n : ℕ) → 10 < n → false ≡ refusedWord (part s a n)
+unfolding short
+refused-long s a n h = sym (free (part s a n) (λ e d. no-word (each-at short reserved (part s a n) reserved-short e)) (λ e d. no-word (each-at short strict (part s a n) strict-short e)))
+  where
+    no-word : leb (length (part s a n)) 10 ≡ true → ⊥
+    no-word e = let k = leb-true (length (part s a n)) 10 e in omega (arith, length-part s a n)
+
+-- ---- a good table
+
+module _ (t f c : List ℕ) (h : good t f c ≡ true) where
+  pub good-lengths : (length f ≡ 11) × (length c ≡ 11)
+  unfolding good
+  good-lengths =
+      let g = both (eqb (length f) 11) (eqb (length c) 11) (both (pick (sound t f c) (complete t f c) false) (pick (eqb (length f) 11) (eqb (length c) 11) false) h .1) in
+      (eqb-true (length f) 11 (g .0), eqb-true (length c) 11 (g .1))
+
+  good-rows : (n : ℕ) → n < 11 → each refusedWord (row t f c n) ≡ true
+  unfolding good sound
+  good-rows n i = up-at (λ m. each refusedWord (row t f c m)) 11 n (both (sound t f c) (complete t f c) (both (pick (sound t f c) (complete t f c) false) (pick (eqb (length f) 11) (eqb (length c) 11) false) h .0) .0) i
+
+  good-known : (each (known t f c) reserved ≡ true) × (each (known t f c) strict ≡ true)
+  unfolding good complete
+  good-known = both (each (known t f c) reserved) (each (known t f c) strict) (both (sound t f c) (complete t f c) (both (pick (sound t f c) (complete t f c) false) (pick (eqb (length f) 11) (eqb (length c) 11) false) h .0) .1)
+
+  -- A word is refused exactly if it stands in the table, among those of its length.
+  refused-row : (w : List ℕ) → length w < 11 → refusedWord w ≡ among (row t f c (length w)) w
+  unfolding known
+  refused-row w i = go (among (row t f c (length w)) w) refl
+    where
+      not-known : among (row t f c (length w)) w ≡ false → pick (among spared w) true (among (row t f c (length w)) w) ≡ true → among spared w ≡ false → ⊥
+      not-known e g d = never (sym (rw (d, e)) ∙ g)
+
+      go : (b : Bool) → among (row t f c (length w)) w ≡ b → refusedWord w ≡ b
+      go true e = each-at refusedWord (row t f c (length w)) w (good-rows (length w) i) e
+      go false e = free w (λ y d. not-known e (each-at (known t f c) reserved w (good-known .0) y) d) (λ y d. not-known e (each-at (known t f c) strict w (good-known .1) y) d)
+
+  pub refused-start : (s : List ℕ) (a n : ℕ) → n ≤ 10 → refusedWord (part s a n) ≡ among (cells t (getD f n 0) n (getD c n 0 - 0)) (part s a n)
+  unfolding row
+  refused-start s a n i =
+      let l = length-part s a n in
+      let z : getD c n 0 ≡ getD c n 0 - 0 = omega arith in
+      refused-row (part s a n) (omega arith) ∙ ap (λ (m : ℕ). among (row t f c m) (part s a n)) l ∙ ap (λ (x : ℕ). among (cells t (getD f n 0) n x) (part s a n)) z

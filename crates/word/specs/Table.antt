@@ -1,0 +1,43 @@
+-- A table of words by their lengths, and the test that it has the words that are refused, and no other.
+use mathlib.Core.Bool.{Bool, true, false}
+use mathlib.Core.List.{List, [], _∷_}
+use Prim.Native.Nat.{ℕ, zero, suc, _+_}
+use lib.ListN.{length, getD}
+use lib.Dec.{eqb}
+use Rattle.rules.specs.Parse.{pick}
+use Rattle.jsx.specs.Word.{among, reserved, spared, strict, refusedWord}
+use Rattle.lex.specs.Contract.{part}
+
+-- Words of n bytes from k on, each with one byte behind it; how many.
+unfoldable pub cells : List ℕ → (k n count : ℕ) → List (List ℕ)
+cells t k n zero = []
+cells t k n (suc c) = part t k n ∷ cells t (k + n + 1) n c
+
+-- Whether every word of a list passes a test, and every number below a bound.
+unfoldable pub each : (List ℕ → Bool) → List (List ℕ) → Bool
+each P [] = true
+each P (v ∷ vs) = pick (P v) (each P vs) false
+
+unfoldable pub upTo : (ℕ → Bool) → ℕ → Bool
+upTo P zero = true
+upTo P (suc n) = pick (P n) (upTo P n) false
+
+-- t: the words. f, c: where the words of each length up to 10 begin, and how many they are.
+module _ (t f c : List ℕ) where
+  -- The words of n bytes.
+  unfoldable pub row : ℕ → List (List ℕ)
+  row n = cells t (getD f n 0) n (getD c n 0)
+
+  unfoldable pub known : List ℕ → Bool
+  known w = pick (among spared w) true (among (row (length w)) w)
+
+  -- Each word of the table is refused.
+  unfoldable pub sound : Bool
+  sound = upTo (λ n. each refusedWord (row n)) 11
+
+  -- Each reserved or strict word is spared or in the table.
+  unfoldable pub complete : Bool
+  complete = pick (each known reserved) (each known strict) false
+
+  unfoldable pub good : Bool
+  good = pick (pick sound complete false) (pick (eqb (length f) 11) (eqb (length c) 11) false) false
