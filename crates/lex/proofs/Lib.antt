@@ -1,3 +1,4 @@
 -- What the proofs of several leaves use.
 pub mod Laws
+pub mod Bare
 pub mod Turns

@@ -22,15 +22,12 @@ use Rattle.jsx.specs.Word.{word, refusedWord, primaryWord, digits, whole, fract
 use Rattle.lex.specs.Contract.{readAt, view, nothing, Leaf, part}
 use Rattle.lex.specs.declared.Ans.{Ans}
 use Rattle.lex.specs.declared.Ans.the-variants.{Got, No}
+use Rattle.lex.proofs.Bare.{bare, direct-got}
+use Rattle.lex.proofs.Turns.{Turns, turns-more, turns-end}
 use Rattle.lex.proofs.Laws.{inside, test-inside, Fails, need-fails, leaf-refuses, leaf-stop, leaf-done}
 use Rattle.word.specs.Leaf.{dashes, run}
-use Rattle.word.proofs.Bare.{bare, bare-part}
 
 -- ---- tests
-
--- What the code's test says of the byte that it has read.
-pub says : (f : Test) {n b : ℕ} {r v : Bool} → n ≡ b → r ≡ f n → r ≡ v → f b ≡ v
-says f e g h = sym (ap f e) ∙ sym g ∙ h
 
 -- A byte that passes a test is none that fails it.
 pub apart : (f : Test) (b k : ℕ) → f k ≡ false → f b ≡ true → eqb b k ≡ false
@@ -117,36 +114,6 @@ pub word-dash : (b : ℕ) → inWord b ≡ true → eqb b 45 ≡ false
 unfolding inWord opensName letter digit
 word-dash b h = apart inWord b 45 refl h
 
--- ---- loops: a rule again and again from `at` on, under the mark e, has come to p
-
-pub record Turned (s : List ℕ) (t : Rule) (e at p : ℕ) : Type 0 where
-  pub from : at ≤ p
-  pub within : p ≤ length s
-  pub fuel : ℕ
-  pub acc : Forest
-  pub enough : length s < fuel + p
-  pub rest : parse s (suc (length s)) (many t) e at ≡ behind acc (repeat (parse s (suc (length s)) t e) fuel p)
-
-module _ (s : List ℕ) (t : Rule) (e at : ℕ) where
-  pub begun-rest : parse s (suc (length s)) (many t) e at ≡ behind nil (repeat (parse s (suc (length s)) t e) (suc (length s)) at)
-  unfolding parse
-  begun-rest = sym (behind-none _)
-
-  abbrev pub begun : at ≤ length s → Turned s t e at at
-  begun h = record { from = omega arith; within = h; fuel = suc (length s); acc = nil; enough = omega arith; rest = begun-rest }
-
-module _ {s : List ℕ} {t : Rule} {e at p : ℕ} (v : Turned s t e at p) where
-  abbrev pub more : {o : Forest} → parse s (suc (length s)) t e p ≡ got true o (p + 1) → p < length s → Turned s t e at (p + 1)
-  more {o} b i =
-      let g = loop-more _ (parse s (suc (length s)) t e) (length s) (v .acc) (v .fuel) p (v .rest) (v .enough) (v .within) b (omega arith) in
-      record { from = omega (arith, v .from); within = omega arith; fuel = g .0; acc = v .acc ⋈ o; enough = g .1; rest = g .2 }
-
-  pub ended : parse s (suc (length s)) t e p ≡ got false nil p → parse s (suc (length s)) (many t) e at ≡ got true (v .acc) p
-  ended b = loop-ends _ (parse s (suc (length s)) t e) (length s) (v .acc) (v .fuel) p (v .rest) (v .enough) (v .within) b
-
-  pub refused : {n a b c d : ℕ} → parse s (suc (length s)) t e p ≡ trouble n a b c d → parse s (suc (length s)) (many t) e at ≡ trouble n a b c d
-  refused b = loop-no _ (parse s (suc (length s)) t e) (length s) (v .acc) (v .fuel) p (v .rest) (v .enough) (v .within) b
-
 -- ---- one byte
 
 module _ (s : List ℕ) (F e p : ℕ) where
@@ -160,12 +127,12 @@ module _ (s : List ℕ) (F e p : ℕ) where
 
 -- ---- a run of bytes that pass a test
 
-module _ (f : Test) {s : List ℕ} {e at p : ℕ} (v : Turned s (when f step stop) e at p) where
-  abbrev pub run-more : f 256 ≡ false → f (byteAt s p) ≡ true → Turned s (when f step stop) e at (p + 1)
-  run-more z h = let i = test-inside f z s p h in more v (test-step s (suc (length s)) e p f stop h i) i
+module _ (f : Test) {s : List ℕ} {e at p : ℕ} (v : Turns s (when f step stop) e at p) where
+  abbrev pub run-more : f 256 ≡ false → f (byteAt s p) ≡ true → Turns s (when f step stop) e at (p + 1)
+  run-more z h = let i = test-inside f z s p h in turns-more v (test-step s (suc (length s)) e p f stop h i) (omega arith) (omega arith)
 
   pub run-ends : f (byteAt s p) ≡ false → parse s (suc (length s)) (run f) e at ≡ got true (v .acc) p
-  run-ends h = ended v (test-stop s (suc (length s)) e p f step h)
+  run-ends h = turns-end v (test-stop s (suc (length s)) e p f step h)
 
 -- ---- a byte that passes a test, and a rule behind it
 
@@ -192,15 +159,6 @@ leaf-needs w g k {r} {s} {at} l e = let z : Leaf nothing r s g at k = leaf-refus
     go : (x : Answer) → Fails x → view nothing x ≡ view w x
     go (got a o p) h = absurd h
     go (trouble n a b c d) h = refl
-
--- A leaf behind a forest that does not change its number.
-pub leaf-behind : (w : Bool → Forest → ℕ) (g : Rule) (at k : ℕ) (u : Forest) {r : Ans} {s : List ℕ} {t : Rule} {p j : ℕ} → ((a : Bool) (o : Forest) → w a o ≡ w a (u ⋈ o))
-    → Leaf w r s t p j → readAt s g at ≡ behind u (readAt s t p) → at + k ≤ p + j → Leaf w r s g at k
-leaf-behind w g at k u {s = s} {t} {p} {j} h l e i = record { is = l .is ∙ go (readAt s t p) ∙ sym (ap (view w) e); far = λ q m x. let y = l .far q m x in (omega arith, y .1) }
-  where
-    go : (x : Answer) → view w x ≡ view w (behind u x)
-    go (got a o q) = ap (λ (n : ℕ). Got q n) (h a o)
-    go (trouble n a b c d) = refl
 
 -- ---- dashes
 
@@ -352,7 +310,7 @@ number-ends s at p u v {b} {r} e f h i = go (inWord (byteAt s p)) (e ∙ ap (λ 
 module _ (s : List ℕ) (at : ℕ) {o : Forest} {p : ℕ} (w : readAt s word at ≡ got true o p) where
   said-part : direct o ≡ part s at (p - at)
   unfolding bare word need
-  said-part = bare-part s (suc (length s)) word refl 0 at w
+  said-part = direct-got s (suc (length s)) word 0 at refl w
 
   pub primary-bad : refusedWord (part s at (p - at)) ≡ true → readAt s primaryWord at ≡ trouble 3 at at 0 0
   unfolding parse primaryWord

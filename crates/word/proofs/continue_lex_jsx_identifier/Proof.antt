@@ -9,12 +9,13 @@ use Rattle.rules.specs.Forest.{direct}
 use Rattle.jsx.specs.Name.{inWord, inName, dashed}
 use Rattle.lex.proofs.Laws as Lex
 use Rattle.word.specs.Leaf.{dashes, run}
+use Rattle.lex.proofs.Turns.{Turns, turns-begin}
 use Rattle.word.proofs.Laws
 use Rattle.word.proofs.continue_lex_jsx_identifier.Statement.{statement}
 use Rattle.word.proofs.continue_lex_jsx_identifier.Tie as tie
 
 abbrev Inv-loop : tie.InvT-loop
-Inv-loop s at p₀ dash₀ p dash = (v : Laws.Turned s (when inName step stop) 0 at p) × (dash ≡ dashed (direct (v .acc)))
+Inv-loop s at p₀ dash₀ p dash = (v : Turns s (when inName step stop) 0 at p) × (dash ≡ dashed (direct (v .acc)))
 
 abbrev μ-loop : tie.MeasureT-loop
 μ-loop s at p₀ dash₀ p dash = length s - p
@@ -23,7 +24,7 @@ loop-holds : tie.Need-loop-holds Inv-loop μ-loop
 loop-holds c =
     let args = c .before .args in
     let pre = c .before .pre in
-    (Laws.begun (args .s .now) _ 0 (args .at) pre, Laws.dash-none)
+    (turns-begin (args .s .now) _ 0 (args .at) pre, Laws.dash-none)
 
 byte-requires : tie.Need-byte-requires Inv-loop μ-loop
 byte-requires c κs = search needs
@@ -41,7 +42,7 @@ loop-less c =
     let byte = c .before .before .byte in
     let in-word = c .before .in-word in
     let if1 = c .if1 in
-    let y = Laws.says inWord (byte .ensures) (in-word .ensures) (if1 .taken) in
+    let y = Lex.tested inWord (byte .ensures) (in-word .ensures) (if1 .taken) in
     let i = Lex.test-inside inWord Laws.word-end (args .s .now) (loop .p) y in
     omega arith
 
@@ -51,7 +52,7 @@ loop-again c =
     let byte = c .before .before .byte in
     let in-word = c .before .in-word in
     let if1 = c .if1 in
-    let y = Laws.says inWord (byte .ensures) (in-word .ensures) (if1 .taken) in
+    let y = Lex.tested inWord (byte .ensures) (in-word .ensures) (if1 .taken) in
     (Laws.run-more inName (loop .inv .0) Laws.name-end (Laws.word-name _ y), Laws.dash-same _ _ (Laws.word-dash _ y) (loop .inv .1))
 
 add-p-2 : tie.Need-add-p-2 Inv-loop μ-loop
@@ -82,7 +83,7 @@ returns c =
     let in-word = c .before .before .in-word in
     let if1 = c .before .if1 in
     let if2 = c .if2 in
-    let n = Laws.other-name _ (Laws.says inWord (byte .ensures) (in-word .ensures) (if1 .left)) (Lex.byte-not (byte .ensures) (if2 .left)) in
+    let n = Laws.other-name _ (Lex.tested inWord (byte .ensures) (in-word .ensures) (if1 .left)) (Lex.byte-not (byte .ensures) (if2 .left)) in
     let v = loop .inv .0 in
     Lex.leaf-done dashes (args .s .now) (run inName) (args .at) 0 (loop .p) (loop .dash) (Laws.run-ends inName v n) (loop .inv .1) (omega arith)
 

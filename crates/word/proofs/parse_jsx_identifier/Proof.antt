@@ -22,7 +22,7 @@ continue-lex-jsx-identifier-requires c κs =
     let byte = c .before .before .byte in
     let opens-name = c .before .opens-name in
     let if1 = c .if1 in
-    let i = Lex.test-inside opensName Laws.opens-end (args .s .now) (args .at) (Laws.says opensName (byte .ensures) (opens-name .ensures) (if1 .taken)) in
+    let i = Lex.test-inside opensName Laws.opens-end (args .s .now) (args .at) (Lex.tested opensName (byte .ensures) (opens-name .ensures) (if1 .taken)) in
     omega arith
 
 unexpected-requires : tie.Need-unexpected-requires
@@ -38,8 +38,8 @@ returns c =
     let continue-lex-jsx-identifier = c .continue-lex-jsx-identifier in
     let s = args .s .now in
     let at = args .at in
-    let y = Laws.says opensName (byte .ensures) (opens-name .ensures) (if1 .taken) in
-    Laws.leaf-behind dashes part at 1 _ (Laws.dash-front _ (Laws.opens-dash _ y)) (continue-lex-jsx-identifier .ensures) (Laws.front-yes opensName (run inName) s at Laws.opens-end y) (omega arith)
+    let y = Lex.tested opensName (byte .ensures) (opens-name .ensures) (if1 .taken) in
+    Lex.leaf-behind dashes part at 1 _ (Laws.dash-front _ (Laws.opens-dash _ y)) (continue-lex-jsx-identifier .ensures) (Laws.front-yes opensName (run inName) s at Laws.opens-end y) (omega arith)
 
 returns-2 : tie.Need-returns-2
 unfolding part
@@ -51,7 +51,7 @@ returns-2 c =
     let unexpected = c .unexpected in
     let s = args .s .now in
     let at = args .at in
-    let n = Laws.says opensName (byte .ensures) (opens-name .ensures) (if1 .left) in
+    let n = Lex.tested opensName (byte .ensures) (opens-name .ensures) (if1 .left) in
     Laws.leaf-needs dashes part 1 (unexpected .ensures) (Laws.front-no opensName (run inName) s at n)
 
 pub parse-jsx-identifier-spec : {M : Type 1} → statement M

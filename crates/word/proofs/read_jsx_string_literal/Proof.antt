@@ -10,12 +10,13 @@ use Rattle.jsx.specs.Text.{quoted}
 use Rattle.jsx.specs.Byte.{quote}
 use Rattle.lex.specs.Contract.{nothing}
 use Rattle.lex.proofs.Laws as Lex
+use Rattle.lex.proofs.Turns.{Turns, turns-begin, turns-end, turns-no, turns-more}
 use Rattle.word.proofs.Laws
 use Rattle.word.proofs.read_jsx_string_literal.Statement.{statement}
 use Rattle.word.proofs.read_jsx_string_literal.Tie as tie
 
 abbrev Inv-loop : tie.InvT-loop
-Inv-loop s at q p₀ p = Laws.Turned s (Laws.turn (byteAt s at) step) at (at + 1) p
+Inv-loop s at q p₀ p = Turns s (Laws.turn (byteAt s at) step) at (at + 1) p
 
 abbrev μ-loop : tie.MeasureT-loop
 μ-loop s at q p₀ p = length s - p
@@ -31,7 +32,7 @@ loop-holds c =
     let args = c .before .before .args in
     let pre = c .before .before .pre in
     let i = Lex.test-inside quote Laws.quote-end (args .s .now) (args .at) (pre .1) in
-    Laws.begun (args .s .now) _ (args .at) (args .at + 1) (omega arith)
+    turns-begin (args .s .now) _ (args .at) (args .at + 1) (omega arith)
 
 byte-requires-2 : tie.Need-byte-requires-2 Inv-loop μ-loop
 byte-requires-2 c κs = search needs
@@ -55,7 +56,7 @@ returns c =
     let v = loop .inv in
     let n = Laws.before-end s p (loop-test .taken) (omega (arith, shared-slice-known .given p)) in
     let b = Laws.turn-close s _ at p (byteAt s at) step n (eq-eqb _ _ (sym (byte2 .ensures) ∙ if1 .taken ∙ byte .ensures)) in
-    Lex.leaf-done nothing s quoted at 2 (p + 1) 0 (Laws.quoted-as s at (Laws.quotes-is step s at (pre .1) (Laws.ended v b) (loop-test .taken))) refl (omega arith)
+    Lex.leaf-done nothing s quoted at 2 (p + 1) 0 (Laws.quoted-as s at (Laws.quotes-is step s at (pre .1) (turns-end v b) (loop-test .taken))) refl (omega arith)
 
 add-p-2 : tie.Need-add-p-2 Inv-loop μ-loop
 add-p-2 c = search needs
@@ -78,7 +79,7 @@ loop-again c =
     let v = loop .inv in
     let n = Laws.before-end s p (loop-test .taken) (omega (arith, shared-slice-known .given p)) in
     let k = ne-eqb _ _ (λ e. if1 .left (byte2 .ensures ∙ e ∙ sym (byte .ensures))) in
-    Laws.more v (Laws.turn-in s _ at p (byteAt s at) step n k ∙ Lex.step-is s _ at p (loop-test .taken)) (loop-test .taken)
+    turns-more v (Laws.turn-in s _ at p (byteAt s at) step n k ∙ Lex.step-is s _ at p (loop-test .taken)) (omega arith) (omega arith)
 
 returns-2 : tie.Need-returns-2 Inv-loop μ-loop
 returns-2 c =
@@ -91,7 +92,7 @@ returns-2 c =
     let p = loop .p in
     let v = loop .inv in
     let b = Laws.turn-end s _ at p (byteAt s at) step (Laws.at-end s p (loop-test .left)) in
-    Lex.leaf-stop nothing s quoted at 2 refl (Laws.quoted-as s at (Laws.quotes-no step s at (pre .1) (Laws.refused v b)))
+    Lex.leaf-stop nothing s quoted at 2 refl (Laws.quoted-as s at (Laws.quotes-no step s at (pre .1) (turns-no v b)))
 
 pub read-jsx-string-literal-spec : {M : Type 1} → statement M
 read-jsx-string-literal-spec =

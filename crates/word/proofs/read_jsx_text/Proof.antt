@@ -5,12 +5,13 @@ use borrow.Author.Needs.{needs}
 use Rattle.rules.specs.Rule.{stop, step, when}
 use Rattle.jsx.specs.Text.{inText}
 use Rattle.lex.proofs.Laws as Lex
+use Rattle.lex.proofs.Turns.{Turns, turns-begin}
 use Rattle.word.proofs.Laws
 use Rattle.word.proofs.read_jsx_text.Statement.{statement}
 use Rattle.word.proofs.read_jsx_text.Tie as tie
 
 abbrev Inv-loop : tie.InvT-loop
-Inv-loop s at p₀ p = Laws.Turned s (when inText step stop) 0 (at + 1) p
+Inv-loop s at p₀ p = Turns s (when inText step stop) 0 (at + 1) p
 
 abbrev μ-loop : tie.MeasureT-loop
 μ-loop s at p₀ p = length s - p
@@ -23,7 +24,7 @@ loop-holds c =
     let args = c .before .args in
     let pre = c .before .pre in
     let i = Lex.test-inside inText Laws.text-end (args .s .now) (args .at) (pre .1) in
-    Laws.begun (args .s .now) _ 0 (args .at + 1) (omega arith)
+    turns-begin (args .s .now) _ 0 (args .at + 1) (omega arith)
 
 byte-requires : tie.Need-byte-requires Inv-loop μ-loop
 byte-requires c κs = search needs
@@ -41,7 +42,7 @@ loop-less c =
     let byte = c .before .before .byte in
     let in-text = c .before .in-text in
     let if1 = c .if1 in
-    let y = Laws.says inText (byte .ensures) (in-text .ensures) (if1 .taken) in
+    let y = Lex.tested inText (byte .ensures) (in-text .ensures) (if1 .taken) in
     let i = Lex.test-inside inText Laws.text-end (args .s .now) (loop .p) y in
     omega arith
 
@@ -51,7 +52,7 @@ loop-again c =
     let byte = c .before .before .byte in
     let in-text = c .before .in-text in
     let if1 = c .if1 in
-    Laws.run-more inText (loop .inv) Laws.text-end (Laws.says inText (byte .ensures) (in-text .ensures) (if1 .taken))
+    Laws.run-more inText (loop .inv) Laws.text-end (Lex.tested inText (byte .ensures) (in-text .ensures) (if1 .taken))
 
 returns : tie.Need-returns Inv-loop μ-loop
 returns c =
@@ -62,7 +63,7 @@ returns c =
     let in-text = c .before .in-text in
     let if1 = c .if1 in
     let v = loop .inv in
-    record { is = Lex.known _ (Laws.text-is (args .s .now) (args .at) (pre .1) (Laws.run-ends inText v (Laws.says inText (byte .ensures) (in-text .ensures) (if1 .left)))); far = omega arith }
+    record { is = Lex.known _ (Laws.text-is (args .s .now) (args .at) (pre .1) (Laws.run-ends inText v (Lex.tested inText (byte .ensures) (in-text .ensures) (if1 .left)))); far = omega arith }
 
 pub read-jsx-text-spec : {M : Type 1} → statement M
 read-jsx-text-spec =

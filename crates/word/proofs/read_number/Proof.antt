@@ -44,7 +44,7 @@ skip-digits-requires c κs =
     let byte = c .before .before .byte in
     let is-digit = c .before .is-digit in
     let if2 = c .if2 in
-    let y = Laws.says digit (byte .ensures) (is-digit .ensures) (if2 .taken) in
+    let y = Lex.tested digit (byte .ensures) (is-digit .ensures) (if2 .taken) in
     let i = Lex.test-inside digit Laws.digit-end (args .s .now) (skip-whole .result .next + 1) y in
     (omega arith, y)
 
@@ -69,7 +69,7 @@ returns-2 c =
     let v = skip-digits .ensures in
     let f = w .0 .far in
     let g = v .0 .far in
-    Laws.number-ends s at (skip-digits .result .next) _ _ (end-number2 .ensures) (v .1) (Laws.number-dotted s at (w .0 .is) d i (Laws.says digit (byte .ensures) (is-digit .ensures) (if2 .taken)) (v .0 .is)) (omega arith)
+    Laws.number-ends s at (skip-digits .result .next) _ _ (end-number2 .ensures) (v .1) (Laws.number-dotted s at (w .0 .is) d i (Lex.tested digit (byte .ensures) (is-digit .ensures) (if2 .taken)) (v .0 .is)) (omega arith)
 
 returns-3 : tie.Need-returns-3
 returns-3 c =
@@ -84,7 +84,7 @@ returns-3 c =
     let w = skip-whole .ensures in
     let d = Lex.byte-is (w .1) (if1 .left) in
     let i = Lex.before-end s (skip-whole .result .next) 46 (sym (w .1) ∙ if1 .left) (lit< tt) in
-    Lex.leaf-stop nothing s number at 1 refl (Laws.number-bad s at (w .0 .is) d i (Laws.says digit (byte .ensures) (is-digit .ensures) (if2 .left)))
+    Lex.leaf-stop nothing s number at 1 refl (Laws.number-bad s at (w .0 .is) d i (Lex.tested digit (byte .ensures) (is-digit .ensures) (if2 .left)))
 
 pub read-number-spec : {M : Type 1} → statement M
 read-number-spec =

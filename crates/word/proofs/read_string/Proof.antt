@@ -9,12 +9,13 @@ use Rattle.jsx.specs.Word.{string, stringBy, stringTurn}
 use Rattle.jsx.specs.Byte.{is, _or_, quote, lineEnd}
 use Rattle.lex.specs.Contract.{nothing}
 use Rattle.lex.proofs.Laws as Lex
+use Rattle.lex.proofs.Turns.{Turns, turns-begin, turns-end, turns-no, turns-more}
 use Rattle.word.proofs.Laws
 use Rattle.word.proofs.read_string.Statement.{statement}
 use Rattle.word.proofs.read_string.Tie as tie
 
 abbrev Inv-loop : tie.InvT-loop
-Inv-loop s at q p₀ p = Laws.Turned s (Laws.turn (byteAt s at) Laws.inString) at (at + 1) p
+Inv-loop s at q p₀ p = Turns s (Laws.turn (byteAt s at) Laws.inString) at (at + 1) p
 
 abbrev μ-loop : tie.MeasureT-loop
 μ-loop s at q p₀ p = length s - p
@@ -30,7 +31,7 @@ loop-holds c =
     let args = c .before .before .args in
     let pre = c .before .before .pre in
     let i = Lex.test-inside quote Laws.quote-end (args .s .now) (args .at) (pre .1) in
-    Laws.begun (args .s .now) _ (args .at) (args .at + 1) (omega arith)
+    turns-begin (args .s .now) _ (args .at) (args .at + 1) (omega arith)
 
 byte-requires-2 : tie.Need-byte-requires-2 Inv-loop μ-loop
 byte-requires-2 c κs = search needs
@@ -47,7 +48,7 @@ returns c =
     let at = args .at in
     let p = loop .p in
     let b = Laws.turn-end s _ at p (byteAt s at) Laws.inString (Lex.byte-is (byte2 .ensures) (if1 .taken)) in
-    Lex.leaf-stop nothing s string at 2 refl ((Laws.quotes-no Laws.inString s at (pre .1) (Laws.refused (loop .inv) b)))
+    Lex.leaf-stop nothing s string at 2 refl ((Laws.quotes-no Laws.inString s at (pre .1) (turns-no (loop .inv) b)))
 
 add-t7 : tie.Need-add-t7 Inv-loop μ-loop
 add-t7 c = search needs
@@ -67,9 +68,9 @@ returns-2 c =
     let p = loop .p in
     let v = loop .inv in
     let n = Lex.byte-not (byte2 .ensures) (if1 .left) in
-    let i = Lex.not-end s p (λ e. if1 .left (byte2 .ensures ∙ e)) (v .within) in
+    let i = Lex.not-end s p (λ e. if1 .left (byte2 .ensures ∙ e)) (v .inside) in
     let b = Laws.turn-close s _ at p (byteAt s at) Laws.inString n (eq-eqb _ _ (sym (byte2 .ensures) ∙ if2 .taken ∙ byte .ensures)) in
-    Lex.leaf-done nothing s string at 2 (p + 1) 0 ((Laws.quotes-is Laws.inString s at (pre .1) (Laws.ended v b) i)) refl (omega arith)
+    Lex.leaf-done nothing s string at 2 (p + 1) 0 ((Laws.quotes-is Laws.inString s at (pre .1) (turns-end v b) i)) refl (omega arith)
 
 is-bad-in-string-requires : tie.Need-is-bad-in-string-requires Inv-loop μ-loop
 is-bad-in-string-requires c κs = search needs
@@ -91,8 +92,8 @@ returns-3 c =
     let p = loop .p in
     let n = Lex.byte-not (byte2 .ensures) (if1 .left) in
     let k = ne-eqb _ _ (λ e. if2 .left (byte2 .ensures ∙ e ∙ sym (byte .ensures))) in
-    let b = Laws.turn-in s _ at p (byteAt s at) Laws.inString n k ∙ Laws.string-bad s _ at p (Laws.says (is "\\" or lineEnd) (byte2 .ensures) (is-bad-in-string .ensures) (if3 .taken)) in
-    Lex.leaf-stop nothing s string at 2 refl (Laws.quotes-no Laws.inString s at (pre .1) (Laws.refused (loop .inv) b))
+    let b = Laws.turn-in s _ at p (byteAt s at) Laws.inString n k ∙ Laws.string-bad s _ at p (Lex.tested (is "\\" or lineEnd) (byte2 .ensures) (is-bad-in-string .ensures) (if3 .taken)) in
+    Lex.leaf-stop nothing s string at 2 refl (Laws.quotes-no Laws.inString s at (pre .1) (turns-no (loop .inv) b))
 
 add-p-2 : tie.Need-add-p-2 Inv-loop μ-loop
 add-p-2 c = search needs
@@ -103,7 +104,7 @@ loop-less c =
     let loop = c .before .before .before .before .before .loop in
     let byte2 = c .before .before .before .before .byte2 in
     let if1 = c .before .before .before .if1 in
-    let i = Lex.not-end (args .s .now) (loop .p) (λ e. if1 .left (byte2 .ensures ∙ e)) (loop .inv .within) in
+    let i = Lex.not-end (args .s .now) (loop .p) (λ e. if1 .left (byte2 .ensures ∙ e)) (loop .inv .inside) in
     omega arith
 
 loop-again : tie.Need-loop-again Inv-loop μ-loop
@@ -122,8 +123,8 @@ loop-again c =
     let v = loop .inv in
     let n = Lex.byte-not (byte2 .ensures) (if1 .left) in
     let k = ne-eqb _ _ (λ e. if2 .left (byte2 .ensures ∙ e ∙ sym (byte .ensures))) in
-    let i = Lex.not-end s p (λ e. if1 .left (byte2 .ensures ∙ e)) (v .within) in
-    Laws.more v (Laws.turn-in s _ at p (byteAt s at) Laws.inString n k ∙ Laws.string-step s _ at p (Laws.says (is "\\" or lineEnd) (byte2 .ensures) (is-bad-in-string .ensures) (if3 .left)) i) i
+    let i = Lex.not-end s p (λ e. if1 .left (byte2 .ensures ∙ e)) (v .inside) in
+    turns-more v (Laws.turn-in s _ at p (byteAt s at) Laws.inString n k ∙ Laws.string-step s _ at p (Lex.tested (is "\\" or lineEnd) (byte2 .ensures) (is-bad-in-string .ensures) (if3 .left)) i) (omega arith) (omega arith)
 
 pub read-string-spec : {M : Type 1} → statement M
 read-string-spec =

@@ -21,7 +21,7 @@ skip-word-requires c κs =
     let byte = c .before .before .byte in
     let opens-name = c .before .opens-name in
     let if1 = c .if1 in
-    (pre, Laws.says opensName (byte .ensures) (opens-name .ensures) (if1 .taken))
+    (pre, Lex.tested opensName (byte .ensures) (opens-name .ensures) (if1 .taken))
 
 unexpected-requires : tie.Need-unexpected-requires
 unexpected-requires c κs = search needs
@@ -40,7 +40,7 @@ returns-2 c =
     let opens-name = c .before .before .opens-name in
     let if1 = c .before .if1 in
     let unexpected = c .unexpected in
-    Laws.leaf-needs nothing word 1 (unexpected .ensures) (Laws.front-no opensName (run inWord) (args .s .now) (args .at) (Laws.says opensName (byte .ensures) (opens-name .ensures) (if1 .left)))
+    Laws.leaf-needs nothing word 1 (unexpected .ensures) (Laws.front-no opensName (run inWord) (args .s .now) (args .at) (Lex.tested opensName (byte .ensures) (opens-name .ensures) (if1 .left)))
 
 pub read-word-spec : {M : Type 1} → statement M
 read-word-spec =

@@ -7,12 +7,13 @@ use Rattle.jsx.specs.Word.{word}
 use Rattle.jsx.specs.Name.{opensName, inWord}
 use Rattle.lex.proofs.Laws as Lex
 use Rattle.word.specs.Leaf.{run}
+use Rattle.lex.proofs.Turns.{Turns, turns-begin}
 use Rattle.word.proofs.Laws
 use Rattle.word.proofs.skip_word.Statement.{statement}
 use Rattle.word.proofs.skip_word.Tie as tie
 
 abbrev Inv-loop : tie.InvT-loop
-Inv-loop s at p₀ p = Laws.Turned s (when inWord step stop) 0 (at + 1) p
+Inv-loop s at p₀ p = Turns s (when inWord step stop) 0 (at + 1) p
 
 abbrev μ-loop : tie.MeasureT-loop
 μ-loop s at p₀ p = length s - p
@@ -25,7 +26,7 @@ loop-holds c =
     let args = c .before .args in
     let pre = c .before .pre in
     let i = Lex.test-inside opensName Laws.opens-end (args .s .now) (args .at) (pre .1) in
-    Laws.begun (args .s .now) _ 0 (args .at + 1) (omega arith)
+    turns-begin (args .s .now) _ 0 (args .at + 1) (omega arith)
 
 byte-requires : tie.Need-byte-requires Inv-loop μ-loop
 byte-requires c κs = search needs
@@ -43,7 +44,7 @@ loop-less c =
     let byte = c .before .before .byte in
     let in-word = c .before .in-word in
     let if1 = c .if1 in
-    let i = Lex.test-inside inWord Laws.word-end (args .s .now) (loop .p) (Laws.says inWord (byte .ensures) (in-word .ensures) (if1 .taken)) in
+    let i = Lex.test-inside inWord Laws.word-end (args .s .now) (loop .p) (Lex.tested inWord (byte .ensures) (in-word .ensures) (if1 .taken)) in
     omega arith
 
 loop-again : tie.Need-loop-again Inv-loop μ-loop
@@ -52,7 +53,7 @@ loop-again c =
     let byte = c .before .before .byte in
     let in-word = c .before .in-word in
     let if1 = c .if1 in
-    Laws.run-more inWord (loop .inv) Laws.word-end (Laws.says inWord (byte .ensures) (in-word .ensures) (if1 .taken))
+    Laws.run-more inWord (loop .inv) Laws.word-end (Lex.tested inWord (byte .ensures) (in-word .ensures) (if1 .taken))
 
 returns : tie.Need-returns Inv-loop μ-loop
 unfolding word
@@ -64,7 +65,7 @@ returns c =
     let in-word = c .before .in-word in
     let if1 = c .if1 in
     let v = loop .inv in
-    record { is = Lex.known _ (Laws.front-got opensName (run inWord) (args .s .now) (args .at) Laws.opens-end (pre .1) (Laws.run-ends inWord v (Laws.says inWord (byte .ensures) (in-word .ensures) (if1 .left)))); far = omega arith }
+    record { is = Lex.known _ (Laws.front-got opensName (run inWord) (args .s .now) (args .at) Laws.opens-end (pre .1) (Laws.run-ends inWord v (Lex.tested inWord (byte .ensures) (in-word .ensures) (if1 .left)))); far = omega arith }
 
 pub skip-word-spec : {M : Type 1} → statement M
 skip-word-spec =

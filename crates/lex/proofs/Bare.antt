@@ -74,15 +74,19 @@ module _ (s : List ℕ) (F : ℕ) where
   flat (marked t) h e at = flat t h at at
   flat (paired t d c u v) h e at = never h
 
-direct-part : (s : List ℕ) (u : Forest) (at : ℕ) → Flat u → Lies s at u → direct u ≡ part s at (width u)
-unfolding direct width part
-direct-part s nil at h l = refl
-direct-part s (byte b u) at h l = λ i. sym (l .0) i ∷ direct-part s u (at + 1) h (l .1) i
-direct-part s (group k c u) at h l = absurd h
+-- What such a rule got has no group.
+pub flat-got : (s : List ℕ) (F : ℕ) (t : Rule) (e at : ℕ) {a : Bool} {o : Forest} {p : ℕ} → bare t ≡ true → parse s F t e at ≡ got a o p → Flat o
+flat-got s F t e at h g = subst (λ (x : Answer). Then x FlatTo) g (flat s F t h e at)
 
--- What such a rule read from `at` to p are the bytes from `at` to p.
-pub bare-part : (s : List ℕ) (F : ℕ) (t : Rule) → bare t ≡ true → (e at : ℕ) {a : Bool} {o : Forest} {p : ℕ} → parse s F t e at ≡ got a o p → direct o ≡ part s at (p - at)
-bare-part s F t h e at {a} {o} {p} g =
+direct-lies : (s : List ℕ) (u : Forest) (at : ℕ) → Flat u → Lies s at u → direct u ≡ part s at (width u)
+unfolding direct width part
+direct-lies s nil at h l = refl
+direct-lies s (byte b u) at h l = λ i. sym (l .0) i ∷ direct-lies s u (at + 1) h (l .1) i
+direct-lies s (group k c u) at h l = absurd h
+
+-- Its bytes are those of the input that it passed.
+pub direct-got : (s : List ℕ) (F : ℕ) (t : Rule) (e at : ℕ) {a : Bool} {o : Forest} {p : ℕ} → bare t ≡ true → parse s F t e at ≡ got a o p → direct o ≡ part s at (p - at)
+direct-got s F t e at {o = o} {p} h g =
     let w = wide-got s F t e at g in
     let k : width o ≡ p - at = omega arith in
-    direct-part s o at (subst (λ (x : Answer). Then x FlatTo) g (flat s F t h e at)) (lies-got s F t e at g) ∙ ap (part s at) k
+    direct-lies s o at (flat-got s F t e at h g) (lies-got s F t e at g) ∙ ap (part s at) k
