@@ -14,7 +14,47 @@ ghost use Rattle.word.specs.Leaf.{dashes, run};
 ghost use Rattle.word.specs.Table.{good};
 use lex::Ans;
 
-// Tests of a byte; 256 is the end.
+const LOWER_A: u32 = b'a' as u32;
+
+const LOWER_Z: u32 = b'z' as u32;
+
+const UPPER_A: u32 = b'A' as u32;
+
+const UPPER_Z: u32 = b'Z' as u32;
+
+const ZERO: u32 = b'0' as u32;
+
+const NINE: u32 = b'9' as u32;
+
+const UNDERSCORE: u32 = b'_' as u32;
+
+const DOLLAR: u32 = b'$' as u32;
+
+const DASH: u32 = b'-' as u32;
+
+const DOT: u32 = b'.' as u32;
+
+const QUOTE: u32 = b'"' as u32;
+
+const APOSTROPHE: u32 = b'\'' as u32;
+
+const LESS: u32 = b'<' as u32;
+
+const GREATER: u32 = b'>' as u32;
+
+const OPEN: u32 = b'{' as u32;
+
+const CLOSE: u32 = b'}' as u32;
+
+const BACKSLASH: u32 = b'\\' as u32;
+
+const LF: u32 = b'\n' as u32;
+
+const CR: u32 = b'\r' as u32;
+
+// What `lex::byte` gives at the end.
+const END: u32 = 256;
+
 fn within(b: u32, lo: u32, hi: u32) -> bool
     ensures { λ r. ⌜ r ≡ (lo ‥ hi) b ⌝ }
 {
@@ -24,20 +64,20 @@ fn within(b: u32, lo: u32, hi: u32) -> bool
 fn is_letter(b: u32) -> bool
     ensures { λ r. ⌜ r ≡ letter b ⌝ }
 {
-    within(b, 97, 122) || within(b, 65, 90)
+    within(b, LOWER_A, LOWER_Z) || within(b, UPPER_A, UPPER_Z)
 }
 
 pub fn is_digit(b: u32) -> bool
     ensures { λ r. ⌜ r ≡ digit b ⌝ }
 {
-    within(b, 48, 57)
+    within(b, ZERO, NINE)
 }
 
 pub fn is_quote(b: u32) -> bool
     ensures { λ r. ⌜ r ≡ quote b ⌝ }
 {
     match b {
-        34 | 39 => true,
+        QUOTE | APOSTROPHE => true,
         _ => false,
     }
 }
@@ -45,7 +85,7 @@ pub fn is_quote(b: u32) -> bool
 pub fn opens_name(b: u32) -> bool
     ensures { λ r. ⌜ r ≡ opensName b ⌝ }
 {
-    is_letter(b) || (b == 95 || b == 36)
+    is_letter(b) || (b == UNDERSCORE || b == DOLLAR)
 }
 
 pub fn in_word(b: u32) -> bool
@@ -57,14 +97,14 @@ pub fn in_word(b: u32) -> bool
 pub fn in_name(b: u32) -> bool
     ensures { λ r. ⌜ r ≡ inName b ⌝ }
 {
-    in_word(b) || b == 45
+    in_word(b) || b == DASH
 }
 
 pub fn in_text(b: u32) -> bool
     ensures { λ r. ⌜ r ≡ inText b ⌝ }
 {
     match b {
-        60 | 62 | 123 | 125 | 256 => false,
+        LESS | GREATER | OPEN | CLOSE | END => false,
         _ => true,
     }
 }
@@ -73,7 +113,7 @@ pub fn in_text(b: u32) -> bool
 fn is_bad_in_string(b: u32) -> bool
     ensures { λ r. ⌜ r ≡ (is "\\" or lineEnd) b ⌝ }
 {
-    b == 92 || (b == 10 || b == 13)
+    b == BACKSLASH || (b == LF || b == CR)
 }
 
 // The rest of a name's part, and whether it holds a dash.
@@ -87,7 +127,7 @@ fn continue_lex_jsx_identifier(s: &[u8], at: usize) -> Ans
         let b = lex::byte(s, p);
         if in_word(b) {
             p = p + 1;
-        } else if b == 45 {
+        } else if b == DASH {
             p = p + 1;
             dash = 1;
         } else {
@@ -187,7 +227,7 @@ fn skip_whole(s: &[u8], at: usize) -> Stop
     requires { ⌜ (at ≤ length (now s)) × (digit (byteAt (now s) at) ≡ true) ⌝ }
     ensures { λ r. ⌜ Past (r .next) (now (s .entry)) whole at 1 × (r .byte ≡ byteAt (now (s .entry)) (r .next)) ⌝ }
 {
-    if lex::byte(s, at) == 48 {
+    if lex::byte(s, at) == ZERO {
         Stop {
             next: at + 1,
             byte: lex::byte(s, at + 1),
@@ -214,7 +254,7 @@ pub fn read_number(s: &[u8], at: usize) -> Ans
     ensures { λ r. ⌜ Leaf nothing r (now (s .entry)) number at 1 ⌝ }
 {
     let whole = skip_whole(s, at);
-    if whole.byte != 46 {
+    if whole.byte != DOT {
         return end_number(at, whole);
     }
     let p = whole.next + 1;
@@ -233,7 +273,7 @@ pub fn read_string(s: &[u8], at: usize) -> Ans
     let mut p = at + 1;
     loop {
         let b = lex::byte(s, p);
-        if b == 256 {
+        if b == END {
             return Ans::No(5, at, at, 0, 0);
         }
         if b == q {
