@@ -12,8 +12,8 @@ use borrow.Author.Tests.{eq-eqb, ne-eqb, eqb-true, lt-ltb}
 use types.Run.{OneOf}
 use Rattle.rules.specs.Forest.{node, Forest, nil, byte, group, _⋈_, direct}
 use Rattle.rules.specs.Rule.{Test, Rule, stop, step, refuse, when, many, marked, here, mark, _⨾_, _⇒_∣_}
-use Rattle.rules.specs.Parse.{Answer, got, trouble, pick, andThen, behind, byteAt, repeat, parse}
-use Rattle.rules.proofs.Run.{never, behind-none, loop-more, loop-ends, loop-no}
+use Rattle.rules.specs.Parse.{Answer, got, trouble, pick, andThen, behind, byteAt, parse}
+use Rattle.rules.proofs.Run.{never}
 use Rattle.rules.proofs.Mark.{any-mark}
 use Rattle.jsx.specs.Byte.{is, _or_, end, lineEnd, letter, digit, quote, need}
 use Rattle.jsx.specs.Name.{opensName, inWord, inName, has, dashed}

@@ -12,13 +12,9 @@ use Rattle.rules.specs.Parse.{pick, byteAt}
 use Rattle.rules.proofs.Run.{never, both}
 use Rattle.jsx.specs.Name.{same}
 use Rattle.jsx.specs.Word.{onFirst, cut, words, among, reserved, spared, strict, refusedWord}
+use Rattle.lex.proofs.Bytes.{length-part}
 use Rattle.lex.specs.Contract.{part}
 use Rattle.word.specs.Table.{cells, each, upTo, row, known, sound, complete, good}
-
-pub length-part : (s : List ℕ) (a n : ℕ) → length (part s a n) ≡ n
-unfolding part
-length-part s a zero = refl
-length-part s a (suc n) = ap suc (length-part s (a + 1) n)
 
 -- ---- two words, byte by byte
 

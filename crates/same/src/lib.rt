@@ -1,0 +1,107 @@
+// Whether two names that were read are equal.
+ghost use mathlib.Core.Path.{_≡_};
+ghost use Prim.Native.Nat.{_-_, _≤_};
+ghost use lib.ListN.{length};
+ghost use Rattle.jsx.specs.Blank.{blanks};
+ghost use Rattle.jsx.specs.Name.{same, elementName, part as namePart};
+ghost use Rattle.jsx.specs.Closing.{allSame};
+ghost use Rattle.lex.specs.Contract.{readAt, outOf, part, Past};
+ghost use Rattle.same.specs.Contract.{Reads, Named, sameNames, Dotted, partsFrom};
+use lex::Ans;
+
+const COLON: u32 = b':' as u32;
+
+// Whether the bytes from a to b and from c to e are the same.
+pub fn same_bytes(s: &[u8], a: usize, b: usize, c: usize, e: usize) -> bool
+    requires { ⌜ (a ≤ b) × (b ≤ length (now s)) × (c ≤ e) × (e ≤ length (now s)) ⌝ }
+    ensures { λ r. ⌜ r ≡ same (part (now (s .entry)) a (b - a)) (part (now (s .entry)) c (e - c)) ⌝ }
+{
+    let n = b - a;
+    if n != e - c {
+        return false;
+    }
+    let mut i = 0;
+    while i < n {
+        if lex::byte(s, a + i) != lex::byte(s, c + i) {
+            return false;
+        }
+        i = i + 1;
+    }
+    true
+}
+
+// The end of a part that was read before.
+fn part_end(s: &[u8], at: usize) -> usize
+    requires { ⌜ Reads (now s) namePart at ⌝ }
+    ensures { λ r. ⌜ Past r (now (s .entry)) namePart at 1 ⌝ }
+{
+    let Ans::Got(p, _) = word::parse_jsx_identifier(s, at) else {
+        return at; // never: it was read before
+    };
+    p
+}
+
+// The end of blanks that were read before.
+fn blanks_end(s: &[u8], at: usize) -> usize
+    requires { ⌜ Reads (now s) blanks at ⌝ }
+    ensures { λ r. ⌜ Past r (now (s .entry)) blanks at 0 ⌝ }
+{
+    let Ans::Got(p, _) = blank::skip_blanks(s, at) else {
+        return at; // never: it was read before
+    };
+    p
+}
+
+// Whether two member names, from the dots at p and q to their ends b and d, have the same parts.
+fn jsx_member_expression_eq(s: &[u8], p: usize, b: usize, q: usize, d: usize) -> bool
+    requires { ⌜ Dotted (now s) p b × Dotted (now s) q d ⌝ }
+    ensures { λ r. ⌜ r ≡ allSame (partsFrom (now (s .entry)) p) (partsFrom (now (s .entry)) q) ⌝ }
+{
+    let mut x = p;
+    let mut y = q;
+    loop {
+        let i = blanks_end(s, x + 1);
+        let j = blanks_end(s, y + 1);
+        let g = part_end(s, i);
+        let h = part_end(s, j);
+        if !same_bytes(s, i, g, j, h) {
+            return false;
+        }
+        if g == b {
+            return h == d;
+        }
+        if h == d {
+            return false;
+        }
+        x = blanks_end(s, g);
+        y = blanks_end(s, h);
+    }
+}
+
+// Whether the element names from a to b and from c to d are equal, part for part and form for form.
+pub fn jsx_element_name_eq(s: &[u8], a: usize, b: usize, c: usize, d: usize) -> bool
+    requires { ⌜ Named (now s) a b × Named (now s) c d ⌝ }
+    ensures { λ r. ⌜ r ≡ sameNames (outOf (readAt (now (s .entry)) elementName a)) (outOf (readAt (now (s .entry)) elementName c)) ⌝ }
+{
+    let e = part_end(s, a);
+    let f = part_end(s, c);
+    if !same_bytes(s, a, e, c, f) {
+        return false;
+    }
+    if e == b {
+        return f == d;
+    }
+    if f == d {
+        return false;
+    }
+    let p = blanks_end(s, e);
+    let q = blanks_end(s, f);
+    let separator = lex::byte(s, p);
+    if separator != lex::byte(s, q) {
+        return false;
+    }
+    if separator == COLON {
+        return same_bytes(s, blanks_end(s, p + 1), b, blanks_end(s, q + 1), d);
+    }
+    jsx_member_expression_eq(s, p, b, q, d)
+}
