@@ -2,10 +2,12 @@
 use mathlib.Core.Path.{_≡_, refl, ap}
 use mathlib.Core.Bool.{Bool, true, false}
 use mathlib.Core.List.{List, [], _∷_}
-use Prim.Native.Nat.{ℕ, zero, suc, _+_}
+use Prim.Native.Nat.{ℕ, zero, suc, _+_, _-_, _≤_, _<_}
+use native.Mathlib.Omega.{arith}
 use lib.ListN.{length}
 use lib.Dec.{eqb}
-use Rattle.rules.specs.Parse.{pick}
+use borrow.Author.Tests.{eq-eqb, ne-eqb}
+use Rattle.rules.specs.Parse.{pick, byteAt}
 use Rattle.jsx.specs.Name.{same}
 use Rattle.lex.specs.Contract.{part}
 
@@ -25,3 +27,33 @@ same-lengths [] [] h = absurd (h refl)
 same-lengths [] (b ∷ v) h = refl
 same-lengths (a ∷ u) [] h = refl
 same-lengths (a ∷ u) (b ∷ v) h = false-or (eqb a b) (same u v) (same-lengths u v (λ e. h (ap suc e)))
+
+-- n bytes from k on in t, and from a on in s.
+abbrev pub sameFrom : (t s : List ℕ) (n k a : ℕ) → Bool
+sameFrom t s n k a = same (part t k n) (part s a n)
+
+pub same-start : (t s : List ℕ) (n k a : ℕ) → sameFrom t s n k a ≡ sameFrom t s (n - 0) (k + 0) (a + 0)
+same-start t s n k a =
+    let e : n ≡ n - 0 = omega arith in
+    let f : k ≡ k + 0 = omega arith in
+    let g : a ≡ a + 0 = omega arith in
+    λ i. sameFrom t s (e i) (f i) (g i)
+
+module _ (t s : List ℕ) {E : Bool} (n k a i : ℕ) where
+  pub same-more : i < n → byteAt t (k + i) ≡ byteAt s (a + i) → E ≡ sameFrom t s (n - i) (k + i) (a + i) → E ≡ sameFrom t s (n - (i + 1)) (k + (i + 1)) (a + (i + 1))
+  unfolding same part
+  same-more h e f =
+      let j : n - i ≡ suc (n - (i + 1)) = omega arith in
+      let jk : k + (i + 1) ≡ k + i + 1 = omega arith in
+      let ja : a + (i + 1) ≡ a + i + 1 = omega arith in
+      rw (jk, ja) (simp (j, eq-eqb _ _ e) at f)
+
+  pub same-differ : i < n → (byteAt t (k + i) ≡ byteAt s (a + i) → ⊥) → E ≡ sameFrom t s (n - i) (k + i) (a + i) → E ≡ false
+  unfolding same part
+  same-differ h e f =
+      let j : n - i ≡ suc (n - (i + 1)) = omega arith in
+      simp (j, ne-eqb _ _ e) at f
+
+  pub same-end : n ≤ i → E ≡ sameFrom t s (n - i) (k + i) (a + i) → E ≡ true
+  unfolding same part
+  same-end h f = let j : n - i ≡ 0 = omega arith in simp j at f

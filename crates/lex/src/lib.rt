@@ -1,11 +1,12 @@
-// The ground of the leaves: an answer, a byte, and the tests for one, two or three bytes.
+// The ground of the leaves: an answer, a byte, and the tests for one, two or more bytes.
 ghost use mathlib.Core.Path.{_≡_};
 ghost use mathlib.Core.List.{[], _∷_};
-ghost use Prim.Native.Nat.{_+_, _<_, _≤_};
+ghost use Prim.Native.Nat.{_+_, _^_, _<_, _≤_};
 ghost use lib.ListN.{length};
 ghost use Rattle.rules.specs.Parse.{byteAt, opens};
 ghost use Rattle.jsx.specs.Byte.{need};
-ghost use Rattle.lex.specs.Contract.{Leaf, nothing, expectByte};
+ghost use Rattle.jsx.specs.Name.{same};
+ghost use Rattle.lex.specs.Contract.{Leaf, nothing, expectByte, part};
 
 // What a reader answers. A refusal is handed up as it is.
 pub enum Ans {
@@ -68,4 +69,19 @@ pub fn three_at(s: &[u8], at: usize, a: u32, b: u32, c: u32) -> bool
     } else {
         false
     }
+}
+
+// Whether the n bytes from k on in t and from a on in s are the same.
+pub fn same_at(t: &[u8], k: usize, s: &[u8], a: usize, n: usize) -> bool
+    requires { ⌜ (k + n < 2 ^ 63) × (a + n ≤ length (now s)) ⌝ }
+    ensures { λ r. ⌜ r ≡ same (part (now (t .entry)) k n) (part (now (s .entry)) a n) ⌝ }
+{
+    let mut i = 0;
+    while i < n {
+        if byte(t, k + i) != byte(s, a + i) {
+            return false;
+        }
+        i = i + 1;
+    }
+    true
 }

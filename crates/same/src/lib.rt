@@ -20,14 +20,7 @@ pub fn same_bytes(s: &[u8], a: usize, b: usize, c: usize, e: usize) -> bool
     if n != e - c {
         return false;
     }
-    let mut i = 0;
-    while i < n {
-        if lex::byte(s, a + i) != lex::byte(s, c + i) {
-            return false;
-        }
-        i = i + 1;
-    }
-    true
+    lex::same_at(s, a, s, c, n)
 }
 
 // The end of a part that was read before.

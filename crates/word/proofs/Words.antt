@@ -7,45 +7,14 @@ use native.Mathlib.Omega.{arith}
 use native.Mathlib.Decide.{decLt}
 use lib.ListN.{length, getD}
 use lib.Dec.{eqb, leb}
-use borrow.Author.Tests.{eq-eqb, ne-eqb, eqb-true, leb-true}
-use Rattle.rules.specs.Parse.{pick, byteAt}
+use borrow.Author.Tests.{eqb-true, leb-true}
+use Rattle.rules.specs.Parse.{pick}
 use Rattle.rules.proofs.Run.{never, both}
 use Rattle.jsx.specs.Name.{same}
 use Rattle.jsx.specs.Word.{onFirst, cut, words, among, reserved, spared, strict, refusedWord}
 use Rattle.lex.proofs.Bytes.{length-part}
 use Rattle.lex.specs.Contract.{part}
 use Rattle.word.specs.Table.{cells, each, upTo, row, known, sound, complete, good}
-
--- ---- two words, byte by byte
-
-abbrev pub sameFrom : (t s : List ℕ) (n k a : ℕ) → Bool
-sameFrom t s n k a = same (part t k n) (part s a n)
-
-pub same-start : (t s : List ℕ) (n k a : ℕ) → sameFrom t s n k a ≡ sameFrom t s (n - 0) (k + 0) (a + 0)
-same-start t s n k a =
-    let e : n ≡ n - 0 = omega arith in
-    let f : k ≡ k + 0 = omega arith in
-    let g : a ≡ a + 0 = omega arith in
-    λ i. sameFrom t s (e i) (f i) (g i)
-
-module _ (t s : List ℕ) {E : Bool} (n k a i : ℕ) where
-  pub same-more : i < n → byteAt t (k + i) ≡ byteAt s (a + i) → E ≡ sameFrom t s (n - i) (k + i) (a + i) → E ≡ sameFrom t s (n - (i + 1)) (k + (i + 1)) (a + (i + 1))
-  unfolding same part
-  same-more h e f =
-      let j : n - i ≡ suc (n - (i + 1)) = omega arith in
-      let jk : k + (i + 1) ≡ k + i + 1 = omega arith in
-      let ja : a + (i + 1) ≡ a + i + 1 = omega arith in
-      rw (jk, ja) (simp (j, eq-eqb _ _ e) at f)
-
-  pub same-differ : i < n → (byteAt t (k + i) ≡ byteAt s (a + i) → ⊥) → E ≡ sameFrom t s (n - i) (k + i) (a + i) → E ≡ false
-  unfolding same part
-  same-differ h e f =
-      let j : n - i ≡ suc (n - (i + 1)) = omega arith in
-      simp (j, ne-eqb _ _ e) at f
-
-  pub same-end : n ≤ i → E ≡ sameFrom t s (n - i) (k + i) (a + i) → E ≡ true
-  unfolding same part
-  same-end h f = let j : n - i ≡ 0 = omega arith in simp j at f
 
 -- ---- a word among some of its length
 

@@ -303,21 +303,6 @@ const FIRST: [u8; 11] = [0, 0, 0, 9, 29, 54, 108, 164, 204, 231, 251];
 // How many words have each length.
 const COUNT: [u8; 11] = [0, 0, 3, 5, 5, 9, 8, 5, 3, 2, 2];
 
-// Whether the n bytes from k on in t and from a on in s are the same.
-fn same_at(t: &[u8], k: usize, s: &[u8], a: usize, n: usize) -> bool
-    requires { ⌜ (k < 4096) × (n ≤ 10) × (a + n ≤ length (now s)) ⌝ }
-    ensures { λ r. ⌜ r ≡ same (part (now (t .entry)) k n) (part (now (s .entry)) a n) ⌝ }
-{
-    let mut i = 0;
-    while i < n {
-        if lex::byte(t, k + i) != lex::byte(s, a + i) {
-            return false;
-        }
-        i = i + 1;
-    }
-    true
-}
-
 // Whether the n bytes from a on in s are a refused word, by a good table.
 fn is_in_table(words: &[u8], first: &[u8], count: &[u8], s: &[u8], a: usize, n: usize) -> bool
     requires { ⌜ (good (now words) (now first) (now count) ≡ true) × (n ≤ 10) × (a + n ≤ length (now s)) ⌝ }
@@ -327,7 +312,7 @@ fn is_in_table(words: &[u8], first: &[u8], count: &[u8], s: &[u8], a: usize, n: 
     let mut p = first[n] as usize;
     let mut i = 0;
     while i < all {
-        if same_at(words, p, s, a, n) {
+        if lex::same_at(words, p, s, a, n) {
             return true;
         }
         p = p + n + 1;

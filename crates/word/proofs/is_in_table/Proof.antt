@@ -54,7 +54,7 @@ loop-holds c =
 same-at-requires : tie.Need-same-at-requires Inv-loop μ-loop
 same-at-requires c κs =
     let pre = c .before .before .before .before .before .before .before .before .pre in
-    (omega arith, pre .1, pre .2)
+    (omega arith, pre .2)
 
 returns : tie.Need-returns Inv-loop μ-loop
 returns c =
