@@ -1,4 +1,4 @@
--- A rule that makes no group reads bytes alone: what it read are the input's bytes there. For every grammar.
+-- A rule that makes no group reads bytes alone: what it read are the input's bytes there.
 use mathlib.Core.Path.{_≡_, refl, sym, ap, subst, _∙_}
 use mathlib.Core.Bool.{Bool, true, false}
 use mathlib.Core.List.{List, _∷_}
@@ -9,7 +9,10 @@ use lib.Dec.{ltb}
 use Rattle.rules.specs.Forest.{Forest, nil, byte, group, _⋈_, width, direct}
 use Rattle.rules.specs.Rule.{Rule, done, stop, step, refuse, when, starts, after, seq, many, wrap, said, marked, paired}
 use Rattle.rules.specs.Parse.{Answer, got, pick, behind, byteAt, opens, repeat, parse}
-use Rattle.rules.proofs.Run.{Then, Lies, never, both, then-if, then-any, then-then, then-behind, then-refusal, wide-got, lies-got}
+use Rattle.rules.proofs.Run.{goes, Then, Lies, never, both, then-if, then-any, then-then, then-behind, then-refusal, wide-got, lies-got}
+use Rattle.jsx.specs.Byte.{need}
+use Rattle.jsx.specs.Blank.{commentTurn, comment, lineTurn, lineComment, blank, blanks}
+use Rattle.jsx.specs.Name.{part as namePart}
 use Rattle.lex.specs.Contract.{part}
 
 unfoldable pub bare : Rule → Bool
@@ -90,3 +93,21 @@ direct-got s F t e at {o = o} {p} h g =
     let w = wide-got s F t e at g in
     let k : width o ≡ p - at = omega arith in
     direct-lies s o at (flat-got s F t e at h g) (lies-got s F t e at g) ∙ ap (part s at) k
+
+-- ---- a name's part, and blanks
+
+pub bare-part : bare namePart ≡ true
+unfolding bare namePart need
+bare-part = refl
+
+pub bare-blanks : bare blanks ≡ true
+unfolding bare blanks blank comment commentTurn lineComment lineTurn
+bare-blanks = refl
+
+pub goes-part : goes namePart ≡ true
+unfolding goes namePart need
+goes-part = refl
+
+pub goes-blanks : goes blanks ≡ true
+unfolding goes blanks
+goes-blanks = refl

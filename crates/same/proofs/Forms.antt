@@ -20,7 +20,7 @@ use Rattle.jsx.specs.Closing.{nodesOf, severalParts, partsOf, allSame, sameName
 use Rattle.jsx.proofs.Again.{nodeAround, onePartOf, otherPartOf, objectOf, elementName-once}
 use Rattle.lex.specs.Contract.{readAt, outOf, part, Past}
 use Rattle.same.specs.Contract.{Reads, Named, sameNames, Dotted, partsFrom}
-use Rattle.lex.proofs.Bare.{flat-got, direct-got}
+use Rattle.lex.proofs.Bare.{flat-got, direct-got, bare-part, bare-blanks}
 use Rattle.same.proofs.Nodes.{nodes-flat}
 use Rattle.same.proofs.Names as Names
 
@@ -94,7 +94,7 @@ around-got k x h =
 
 module _ (s : List ℕ) (a b e q : ℕ) {w v : Forest} (n : Named s a b) (h : readAt s namePart a ≡ got true w e) (k : readAt s blanks e ≡ got true v q) where
   first : direct w ≡ bytesTo s a e
-  first = direct-got s (suc (length s)) namePart 0 a Names.bare-part h
+  first = direct-got s (suc (length s)) namePart 0 a bare-part h
 
   as-pair : is ":" (byteAt s q) ≡ true → nodeAround 6 (behind (otherPartOf w) (behind v (readAt s (expect ":" ⨾ blanks ⨾ otherPart) q))) ≡ got true (nameAt s a) b → Form s a b e q
   unfolding nodesOf _⋈_ partsOf severalParts
@@ -106,7 +106,7 @@ module _ (s : List ℕ) (a b e q : ℕ) {w v : Forest} (n : Named s a b) (h : re
       let l₁ = up-got s (suc (length s)) blanks 0 e k in
       let l₂ = up-got s (suc (length s)) blanks 0 (q + 1) (r .passed) in
       let l₃ = up-got s (suc (length s)) otherPart 0 (r .i) (r .behind) in
-      let p = flat-got s (suc (length s)) blanks 0 e Names.bare-blanks k in
+      let p = flat-got s (suc (length s)) blanks 0 e bare-blanks k in
       let t : nodesOf (x .0) ≡ bytesTo s a e ∷ nodesOf (z .0) = ap nodesOf (y .2) ∙ (λ i. first i ∷ (ap nodesOf (z .2) ∙ nodes-flat v (z .0) p) i) in
       pair (z .0) (omega arith) (eqb-true (byteAt s q) 58 c) r (record { x = 0; c = x .0; is = x .2; parts = t })
 

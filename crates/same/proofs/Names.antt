@@ -20,7 +20,7 @@ use Rattle.rules.proofs.Ends.{Turn, last, goon, turn, refuel}
 use Rattle.rules.proofs.Again.{two-got}
 use Rattle.jsx.specs.Kind as Kind
 use Rattle.jsx.specs.Byte.{is, need, expect}
-use Rattle.jsx.specs.Blank.{commentTurn, comment, lineTurn, lineComment, blank, blanks}
+use Rattle.jsx.specs.Blank.{blanks}
 use Rattle.jsx.specs.Name.{has, dashed, part as namePart, otherPart, dottedPart, dotted}
 use Rattle.jsx.specs.Closing.{nodesOf}
 use Rattle.jsx.proofs.Again.{otherPartOf, dotted-once}
@@ -29,30 +29,14 @@ use Rattle.lex.specs.declared.Ans.{Ans}
 use Rattle.lex.specs.declared.Ans.the-variants.{Got, No}
 use Rattle.lex.proofs.Laws as Lex
 use Rattle.same.specs.Contract.{Reads, dots, Dotted, partsFrom}
-use Rattle.lex.proofs.Bare.{bare, Flat, flat-got, direct-got}
+use Rattle.lex.proofs.Bare.{Flat, flat-got, direct-got, bare-part, bare-blanks, goes-blanks}
 use Rattle.same.proofs.Nodes.{nodes-flat, nodes-join}
 
 -- ---- rules
 
-pub goes-part : goes namePart ≡ true
-unfolding goes namePart need
-goes-part = refl
-
-pub goes-blanks : goes blanks ≡ true
-unfolding goes blanks
-goes-blanks = refl
-
 pub goes-look : goes (namePart ⨾ blanks) ≡ true
 unfolding goes namePart need blanks
 goes-look = refl
-
-pub bare-part : bare namePart ≡ true
-unfolding bare namePart need
-bare-part = refl
-
-pub bare-blanks : bare blanks ≡ true
-unfolding bare blanks blank comment commentTurn lineComment lineTurn
-bare-blanks = refl
 
 goes-turn : goes (expect "." ⨾ blanks ⨾ dottedPart) ≡ true
 unfolding goes expect need blanks dottedPart otherPart namePart

@@ -1,4 +1,5 @@
 use borrow.Author.Needs.{needs}
+use Rattle.lex.proofs.Bare.{goes-blanks}
 use Rattle.same.proofs.Names
 use Rattle.same.proofs.blanks_end.Statement.{statement}
 use Rattle.same.proofs.blanks_end.Tie as tie
@@ -23,7 +24,7 @@ returns-2 : tie.Need-returns-2
 returns-2 c =
     let skip-blanks = c .before .before .before .skip-blanks in
     let p = c .before .p in
-    Names.read-past Names.goes-blanks (skip-blanks .ensures) (p .given .1)
+    Names.read-past goes-blanks (skip-blanks .ensures) (p .given .1)
 
 pub blanks-end-spec : {M : Type 1} → statement M
 blanks-end-spec =

@@ -1,4 +1,5 @@
 use borrow.Author.Needs.{needs}
+use Rattle.lex.proofs.Bare.{goes-part}
 use Rattle.same.proofs.Names
 use Rattle.same.proofs.part_end.Statement.{statement}
 use Rattle.same.proofs.part_end.Tie as tie
@@ -23,7 +24,7 @@ returns-2 : tie.Need-returns-2
 returns-2 c =
     let parse-jsx-identifier = c .before .before .before .parse-jsx-identifier in
     let p = c .before .p in
-    Names.read-past Names.goes-part (parse-jsx-identifier .ensures) (p .given .1)
+    Names.read-past goes-part (parse-jsx-identifier .ensures) (p .given .1)
 
 pub part-end-spec : {M : Type 1} → statement M
 part-end-spec =
