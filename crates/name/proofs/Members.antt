@@ -9,11 +9,9 @@ use lib.Dec.{lit<}
 use lib.Seq.{sets, length-sets}
 use borrow.Author.Tests.{eq-eqb}
 use Rattle.rules.specs.Forest.{node, Forest, nil, group, _⋈_, width, direct}
-use Rattle.rules.specs.Rule.{many}
-use Rattle.rules.specs.Parse.{Answer, got, trouble, behind, byteAt, repeat, parse}
+use Rattle.rules.specs.Parse.{Answer, got, trouble, behind, byteAt}
 use Rattle.rules.specs.Record.{count, records}
 use Rattle.rules.proofs.Forests.{behind-nil, behind-assoc}
-use Rattle.rules.proofs.Run.{behind-none, loop-more, loop-ends, loop-no}
 use Rattle.jsx.specs.Byte.{is}
 use Rattle.jsx.specs.Blank.{blanks}
 use Rattle.jsx.specs.Name.{has, part, dashed, objectName, dottedPart, dotted, member}
@@ -22,6 +20,7 @@ use Rattle.lex.specs.Contract.{readAt, outOf, nothing, Leaf, part as bytes}
 use Rattle.lex.specs.declared.Ans.{Ans}
 use Rattle.lex.specs.declared.Ans.the-variants.{Got, No}
 use Rattle.lex.proofs.Laws.{before-end, leaf-no, leaf-got}
+use Rattle.lex.proofs.Turns.{Turns, turns-begin, turns-more, turns-end, turns-no}
 use Rattle.table.specs.Contract.{nodeRow, leafRow}
 use Rattle.table.proofs.Laws.{headed}
 use Rattle.name.specs.Contract.{FirstPart, Made}
@@ -34,16 +33,11 @@ use Rattle.name.proofs.Rows.{part-stored, part-count, part-ends, more, 
 
 -- The first part, w, ended at e; m parts were read, the last of which ends at z; and from t₀ to t their rows were stored behind the place of the member's own.
 pub record Parts (s : List ℕ) (at e n : ℕ) (t₀ : List ℕ) (w : Forest) (t : List ℕ) (z m : ℕ) : Type 0 where
-  pub fuel : ℕ
-  pub acc : Forest
-  pub enough : length s < fuel + z
-  pub past : e ≤ z
-  pub within : z ≤ length s
+  pub turns : Turns s dotted 0 e z
   pub few : 2 * at + m < 2 * z
-  pub rest : readAt s (many dotted) e ≡ behind acc (repeat (parse s (suc (length s)) dotted 0) fuel z)
-  pub ends : z ≡ at + width (objectOf w ⋈ acc)
-  pub counts : m ≡ count (objectOf w ⋈ acc)
-  pub rows : t ≡ sets t₀ 6 (records at (n + 1) n (objectOf w ⋈ acc))
+  pub ends : z ≡ at + width (objectOf w ⋈ turns .acc)
+  pub counts : m ≡ count (objectOf w ⋈ turns .acc)
+  pub rows : t ≡ sets t₀ 6 (records at (n + 1) n (objectOf w ⋈ turns .acc))
 
 -- Behind the last part stand blanks up to p, and a dot.
 pub record AtDot (s : List ℕ) (at e n : ℕ) (t₀ : List ℕ) (w : Forest) (t : List ℕ) (p m : ℕ) : Type 0 where
@@ -53,10 +47,6 @@ pub record AtDot (s : List ℕ) (at e n : ℕ) (t₀ : List ℕ) (w : Forest) (t
   pub passed : readAt s blanks z ≡ got true gap p
   pub dot : byteAt s p ≡ 46
   pub ordered : z ≤ p
-
-pub loop-begins : (s : List ℕ) (e : ℕ) → readAt s (many dotted) e ≡ behind nil (repeat (parse s (suc (length s)) dotted 0) (suc (length s)) e)
-unfolding parse
-loop-begins s e = sym (behind-none _)
 
 -- One part was read, and its row stored.
 abbrev pub parts-begin : {s : List ℕ} {at e d q : ℕ} (n k : ℕ) (t₀ : List ℕ) {t : List ℕ} → FirstPart s at e d q → objectName (bytes s at (e - at)) ≡ node k (dashed (bytes s at (e - at)))
@@ -68,13 +58,8 @@ parts-begin {s} {at} {e} {d} n k t₀ f hk g =
     let o : objectOf w ≡ objectOf w ⋈ nil = sym (behind-nil (objectOf w)) in
     let i = f .ordered in
     record {
-      fuel = suc (length s);
-      acc = nil;
-      enough = omega arith;
-      past = omega arith;
-      within = omega arith;
+      turns = turns-begin s dotted 0 e (omega arith);
       few = omega arith;
-      rest = loop-begins s e;
       ends = part-ends s at (f .read) l ∙ ap (λ (x : Forest). at + width x) o;
       counts = sym (part-count s at (f .read) l) ∙ ap count o;
       rows = part-stored s at (f .read) l t₀ 6 (n + 1) n g ∙ ap (λ (x : Forest). sets t₀ 6 (records at (n + 1) n x)) o;
@@ -86,24 +71,17 @@ module _ {s : List ℕ} {at e n : ℕ} {t₀ : List ℕ} {w : Forest} {t : List 
       → readAt s blanks (p + 1) ≡ got true g₂ a → readAt s part a ≡ got true w₂ b → has "-" (direct w₂) ≡ false → z ≤ p → p + 1 ≤ a → a + 1 ≤ b → b ≤ length s
       → t′ ≡ sets t (6 * (m + 1)) (leafRow (n + (m + 1)) n 16 a b 0) → Parts s at e n t₀ w t′ b (m + 1)
   parts-more {g₁} {g₂} {w₂} {p} {a} {b} hg dot i hg₂ hw hd o₁ o₂ o₃ o₄ f =
-      let u = objectOf w ⋈ v .acc in
+      let u = objectOf w ⋈ v .turns .acc in
       let more′ = joint g₁ (byteAt s p) g₂ ⋈ otherPartOf w₂ in
       let l : node 16 (dashed (direct w₂)) ≡ node 16 0 = ap (node 16) (undashed (direct w₂) hd) in
-      let y : more u g₁ (byteAt s p) g₂ (node 16 (dashed (direct w₂))) w₂ ≡ objectOf w ⋈ (v .acc ⋈ more′) = behind-assoc (objectOf w) (v .acc) more′ in
+      let y : more u g₁ (byteAt s p) g₂ (node 16 (dashed (direct w₂))) w₂ ≡ objectOf w ⋈ (v .turns .acc ⋈ more′) = behind-assoc (objectOf w) (v .turns .acc) more′ in
       let turn : readAt s dotted z ≡ got true more′ b = turn-part s z hg dot i hg₂ (dotted-is s a hw hd) in
-      let x = loop-more _ (parse s (suc (length s)) dotted 0) (length s) (v .acc) (v .fuel) z (v .rest) (v .enough) (v .within) turn (omega arith) in
       let c₀ : m ≡ count u = v .counts in
       let c : count (more u g₁ (byteAt s p) g₂ (node 16 (dashed (direct w₂))) w₂) ≡ count u + 1 = more-count s at z p a b u (v .ends) hg hg₂ hw l in
       let few = v .few in
-      let past = v .past in
       record {
-        fuel = x .0;
-        acc = v .acc ⋈ more′;
-        enough = x .1;
-        past = omega arith;
-        within = o₄;
+        turns = turns-more (v .turns) turn (omega arith) o₄;
         few = omega arith;
-        rest = x .2;
         ends = more-ends s at z p a b u (v .ends) hg hg₂ hw l ∙ ap (λ (x : Forest). at + width x) y;
         counts = ap (λ (x : ℕ). x + 1) c₀ ∙ sym c ∙ ap count y;
         rows = more-stored s at z p a b u (v .ends) hg hg₂ hw l t₀ 6 (6 * (m + 1)) (n + 1) (n + (m + 1)) n (v .rows) (omega arith) (omega arith) f ∙ ap (λ (x : Forest). sets t₀ 6 (records at (n + 1) n x)) y;
@@ -112,24 +90,24 @@ module _ {s : List ℕ} {at e n : ℕ} {t₀ : List ℕ} {w : Forest} {t : List 
   -- A turn that refuses.
   pub parts-no : readAt s part at ≡ got true w e → {x a b c d : ℕ} → readAt s dotted z ≡ trouble x a b c d → readAt s member at ≡ trouble x a b c d
   parts-no h y = member-again s (suc (length s)) 0 at h
-      ∙ ap (λ (x : Answer). nodeAround 7 (behind (objectOf w) x)) (loop-no _ (parse s (suc (length s)) dotted 0) (length s) (v .acc) (v .fuel) z (v .rest) (v .enough) (v .within) y)
+      ∙ ap (λ (x : Answer). nodeAround 7 (behind (objectOf w) x)) (turns-no (v .turns) y)
 
   -- The last turn, and the member's own row.
   pub parts-made : readAt s part at ≡ got true w e → readAt s dotted z ≡ got false nil z → at + 3 ≤ z → (parent : ℕ) {t′ : List ℕ} → t′ ≡ sets t 0 (nodeRow n parent 7 at z 0 m)
       → Made (Got z (m + 1)) s member at 3 n parent 0 t₀ t′
   unfolding count
   parts-made h y k parent {t′} f =
-      let u = objectOf w ⋈ v .acc in
+      let u = objectOf w ⋈ v .turns .acc in
       let few = v .few in
       let c₀ = v .counts in
       let all : readAt s member at ≡ got true (group (node 7 0) u nil) z = member-again s (suc (length s)) 0 at h
-      ∙ ap (λ (x : Answer). nodeAround 7 (behind (objectOf w) x)) (loop-ends _ (parse s (suc (length s)) dotted 0) (length s) (v .acc) (v .fuel) z (v .rest) (v .enough) (v .within) y) in
-      made-done s member (group (node 7 0) u nil) at 3 n parent 0 t₀ t′ z (m + 1) all (omega arith) (omega arith, v .within, k)
+      ∙ ap (λ (x : Answer). nodeAround 7 (behind (objectOf w) x)) (turns-end (v .turns) y) in
+      made-done s member (group (node 7 0) u nil) at 3 n parent 0 t₀ t′ z (m + 1) all (omega arith) (omega arith, v .turns .inside, k)
       (f ∙ ap (λ (x : List ℕ). sets x 0 (nodeRow n parent 7 at z 0 m)) (v .rows) ∙ headed u t₀ at n parent 0 6 7 z 0 m (v .ends) (v .counts) refl)
 
   -- Stores change no length.
   pub parts-length : length t ≡ length t₀
-  parts-length = ap length (v .rows) ∙ length-sets t₀ 6 (records at (n + 1) n (objectOf w ⋈ v .acc))
+  parts-length = ap length (v .rows) ∙ length-sets t₀ 6 (records at (n + 1) n (objectOf w ⋈ v .turns .acc))
 
 -- ---- at a dot, by the answers of the readers that the code calls
 

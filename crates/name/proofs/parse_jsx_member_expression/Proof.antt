@@ -147,7 +147,7 @@ add-m c =
     let loop = c .before .before .before .before .before .before .before .before .loop in
     let v = loop .inv (args .t .now) (put-leaf-at .ensures) in
     let few = v .parts .few in
-    let in₁ = v .parts .within in
+    let in₁ = v .parts .turns .inside in
     let room = pre .0 in
     omega arith
 
@@ -159,7 +159,7 @@ mul-put-leaf-at c =
     let loop = c .before .before .before .before .before .before .before .before .before .loop in
     let v = loop .inv (args .t .now) (put-leaf-at .ensures) in
     let few = v .parts .few in
-    let in₁ = v .parts .within in
+    let in₁ = v .parts .turns .inside in
     let room = pre .0 in
     omega arith
 
@@ -171,7 +171,7 @@ add-put-leaf-at-2 c =
     let loop = c .before .before .before .before .before .before .before .before .before .loop in
     let v = loop .inv (args .t .now) (put-leaf-at .ensures) in
     let few = v .parts .few in
-    let in₁ = v .parts .within in
+    let in₁ = v .parts .turns .inside in
     let room = pre .0 in
     omega arith
 
@@ -190,7 +190,7 @@ put-leaf-at-requires-2 c κs =
     let l₂ = parse-dotted-part .ensures .far _ _ (r2 .given .1) in
     let few = v .parts .few in
     let room = pre .0 in
-    let in₁ = v .parts .within in
+    let in₁ = v .parts .turns .inside in
     omega arith
 
 skip-blanks-requires-2 : tie.Need-skip-blanks-requires-2 Inv-loop μ-loop
@@ -245,7 +245,7 @@ put-node-requires c κs =
     let v = loop .inv (args .t .now) (put-leaf-at .ensures) in
     let l₂ = parse-dotted-part .ensures .far _ _ (r2 .given .1) in
     let few = v .parts .few in
-    let in₁ = v .parts .within in
+    let in₁ = v .parts .turns .inside in
     let room = pre .0 in
     omega arith
 
@@ -257,7 +257,7 @@ add-t32 c =
     let loop = c .before .before .before .before .before .before .before .before .before .before .before .before .before .before .before .before .before .before .before .before .before .before .loop in
     let v = loop .inv (args .t .now) (put-leaf-at .ensures) in
     let few = v .parts .few in
-    let in₁ = v .parts .within in
+    let in₁ = v .parts .turns .inside in
     let room = pre .0 in
     omega arith
 
@@ -292,7 +292,7 @@ returns-4 c =
     let l₁ = skip-blanks .ensures .far _ _ (r .given .1) in
     let l₂ = parse-dotted-part .ensures .far _ _ (r2 .given .1) in
     let o = v .ordered in
-    let past = v .parts .past in
+    let past = v .parts .turns .past in
     let i = pre .1 .ordered in
     let g = Lex.leaf-got goes-blanks (skip-blanks2 .ensures) (r3 .given .1) in
     parts-made (dot-more v (skip-blanks .ensures) (r .given .1) (parse-dotted-part .ensures) (r2 .given .1) (put-leaf-at2 .ensures)) (pre .1 .read) (Steps.turn-stop (args .s .now) _ g (Lex.byte-not (byte .ensures) (if1 .taken))) (omega arith) (args .parent) (put-node .ensures)
