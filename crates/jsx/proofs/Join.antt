@@ -15,7 +15,6 @@ use Rattle.rules.proofs.Ends.{top-got, Turn, last, goon, turn, turn-last}
 use Rattle.rules.proofs.Agree.{Plain, byte-end}
 use Rattle.rules.proofs.Moved.{moved, beyond}
 use Rattle.rules.proofs.Joined.{meets, lastEnds, firstEnd, Bare, records-apart, records-met, count-apart, count-met}
-use Rattle.jsx.specs.Kind as Kind
 use Rattle.jsx.specs.Element.{children}
 use Rattle.jsx.specs.Compose.{textLabel, joined, rowsOf}
 use Rattle.jsx.specs.Depth.{within}

@@ -5,28 +5,22 @@ use borrow.Author.Needs.{needs}
 use Rattle.lex.proofs.Laws
 use Rattle.lex.proofs.byte.Statement.{statement}
 use Rattle.lex.proofs.byte.Tie as tie
-use Rattle.lex.proofs.byte.Reads as reads
-use Rattle.lex.proofs.byte.Lts as lts
 
--- src/lib.rt:22:23
 shared-slice-read-result : tie.Need-shared-slice-read-result
 shared-slice-read-result c = search needs
 
--- src/lib.rt:22:23
 cast-result : tie.Need-cast-result
 cast-result c =
     let args = c .before .before .args in
     let shared-slice-known = c .shared-slice-known in
     omega (arith, shared-slice-known .given (args .at))
 
--- src/lib.rt:19:1
 returns : tie.Need-returns
 returns c =
     let args = c .before .before .args in
     let if1 = c .before .if1 in
     Laws.inside (args .s .now) (args .at) 0 256 (if1 .taken)
 
--- src/lib.rt:19:1
 returns-2 : tie.Need-returns-2
 returns-2 c =
     let args = c .before .args in

@@ -9,24 +9,16 @@ use Rattle.jsx.specs.Byte.{need}
 use Rattle.lex.specs.Contract.{nothing, expectByte}
 use Rattle.lex.proofs.expect.Statement.{statement}
 use Rattle.lex.proofs.expect.Tie as tie
-use Rattle.lex.proofs.expect.Reads as reads
-use Rattle.lex.proofs.expect.Lts as lts
-use Rattle.lex.proofs.byte.Reads as byte-reads
-use Rattle.lex.proofs.unexpected.Reads as unexpected-reads
 
--- src/lib.rt:42:8
 byte-requires : tie.Need-byte-requires
 byte-requires c κs = search needs
 
--- src/lib.rt:43:18
 add-t7 : tie.Need-add-t7
 add-t7 c = search needs
 
--- src/lib.rt:45:9
 unexpected-requires : tie.Need-unexpected-requires
 unexpected-requires c κs = search needs
 
--- src/lib.rt:38:1
 returns : tie.Need-returns
 returns c =
     let args = c .before .before .before .args in
@@ -39,7 +31,6 @@ returns c =
     let i = Laws.before-end s at (args .b) (sym (byte .ensures) ∙ if1 .taken) (pre .0) in
     Laws.leaf-done nothing s (expectByte (args .b)) at 1 (at + 1) 0 (Laws.when-yes s _ 0 at (λ n. eqb n (args .b)) step need y ∙ Laws.step-is s _ 0 at i) refl (omega arith)
 
--- src/lib.rt:38:1
 returns-2 : tie.Need-returns-2
 returns-2 c =
     let args = c .before .before .before .before .args in

@@ -4,20 +4,13 @@ use borrow.Author.Needs.{needs}
 use Rattle.lex.proofs.Laws
 use Rattle.lex.proofs.three_at.Statement.{statement}
 use Rattle.lex.proofs.three_at.Tie as tie
-use Rattle.lex.proofs.three_at.Reads as reads
-use Rattle.lex.proofs.three_at.Lts as lts
-use Rattle.lex.proofs.byte.Reads as byte-reads
-use Rattle.lex.proofs.two_at.Reads as two-at-reads
 
--- src/lib.rt:66:8
 byte-requires : tie.Need-byte-requires
 byte-requires c κs = search needs
 
--- src/lib.rt:67:19
 add-two-at : tie.Need-add-two-at
 add-two-at c = search needs
 
--- src/lib.rt:67:9
 two-at-requires : tie.Need-two-at-requires
 two-at-requires c κs =
     let args = c .before .before .before .args in
@@ -26,7 +19,6 @@ two-at-requires c κs =
     let if1 = c .if1 in
     let b = Laws.before-end (args .s .now) (args .at) (args .a) (sym (byte .ensures) ∙ if1 .taken) (pre .0) in omega arith
 
--- src/lib.rt:62:1
 returns : tie.Need-returns
 returns c =
     let args = c .before .before .before .before .args in
@@ -35,7 +27,6 @@ returns c =
     let two-at = c .two-at in
     two-at .ensures ∙ sym (Laws.opens-yes (args .s .now) _ (args .at) (args .a) (Laws.byte-is (byte .ensures) (if1 .taken)))
 
--- src/lib.rt:62:1
 returns-2 : tie.Need-returns-2
 returns-2 c =
     let args = c .before .before .before .args in

@@ -5,23 +5,16 @@ use borrow.Author.Needs.{needs}
 use Rattle.lex.proofs.Laws
 use Rattle.lex.proofs.two_at.Statement.{statement}
 use Rattle.lex.proofs.two_at.Tie as tie
-use Rattle.lex.proofs.two_at.Reads as reads
-use Rattle.lex.proofs.two_at.Lts as lts
-use Rattle.lex.proofs.byte.Reads as byte-reads
 
--- src/lib.rt:54:8
 byte-requires : tie.Need-byte-requires
 byte-requires c κs = search needs
 
--- src/lib.rt:55:17
 add-byte : tie.Need-add-byte
 add-byte c = search needs
 
--- src/lib.rt:55:9
 byte-requires-2 : tie.Need-byte-requires-2
 byte-requires-2 c κs = search needs
 
--- src/lib.rt:50:1
 returns : tie.Need-returns
 returns c =
     let args = c .before .before .before .before .args in
@@ -30,7 +23,6 @@ returns c =
     let byte2 = c .byte2 in
     ap (λ (n : ℕ). eqb n (args .b)) (byte2 .ensures) ∙ sym (Laws.opens-yes (args .s .now) _ (args .at) (args .a) (Laws.byte-is (byte .ensures) (if1 .taken)) ∙ Laws.opens-one (args .s .now) (args .at + 1) (args .b))
 
--- src/lib.rt:50:1
 returns-2 : tie.Need-returns-2
 returns-2 c =
     let args = c .before .before .before .args in

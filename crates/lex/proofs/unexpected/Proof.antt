@@ -5,15 +5,10 @@ use Rattle.jsx.specs.Byte.{need}
 use Rattle.lex.specs.Contract.{nothing}
 use Rattle.lex.proofs.unexpected.Statement.{statement}
 use Rattle.lex.proofs.unexpected.Tie as tie
-use Rattle.lex.proofs.unexpected.Reads as reads
-use Rattle.lex.proofs.unexpected.Lts as lts
-use Rattle.lex.proofs.byte.Reads as byte-reads
 
--- src/lib.rt:29:9
 byte-requires : tie.Need-byte-requires
 byte-requires c κs = search needs
 
--- src/lib.rt:26:1
 returns : tie.Need-returns
 returns c =
     let args = c .before .before .before .args in
@@ -21,7 +16,6 @@ returns c =
     let if1 = c .if1 in
     Laws.leaf-stop nothing (args .s .now) need (args .at) 0 refl (Laws.need-end (args .s .now) (args .at) (Laws.byte-is (byte .ensures) (if1 .taken)))
 
--- src/lib.rt:26:1
 returns-2 : tie.Need-returns-2
 returns-2 c =
     let args = c .before .before .before .args in
