@@ -10,11 +10,11 @@ use lib.Dec.{eqb}
 use borrow.Author.Tests.{ne-eqb, eqb-false, lt-ltb}
 use Rattle.rules.specs.Forest.{Forest, nil, byte, _⋈_}
 use Rattle.rules.specs.Rule.{Rule, step, seq, many}
-use Rattle.rules.specs.Parse.{got, trouble, pick, behind, byteAt, opens, parse}
+use Rattle.rules.specs.Parse.{got, trouble, pick, behind, byteAt, opens, parse, parsed, readAt}
 use Rattle.rules.proofs.Run.{goes, never}
 use Rattle.jsx.specs.Byte.{bytesOf, end, lineEnd, _or_}
 use Rattle.jsx.specs.Blank.{blankByte, commentTurn, comment, lineTurn, lineComment, blank, blanks, pass}
-use Rattle.lex.specs.Contract.{readAt, nothing, Leaf}
+use Rattle.lex.specs.Contract.{nothing, Leaf}
 use Rattle.lex.specs.declared.Ans.{Ans}
 use Rattle.lex.specs.declared.Ans.the-variants.{Got, No}
 use Rattle.lex.proofs.Laws as Lex
@@ -95,22 +95,22 @@ module _ (s : List ℕ) (F e p : ℕ) where
     comment-step u i = rw (t, u, lt-ltb p (length s) i)
 
 module _ (s : List ℕ) (at : ℕ) (i : at + 2 ≤ length s) where
-  pub comment-no : {n a b c d : ℕ} → parse s (suc (length s)) (many commentTurn) at (at + 2) ≡ trouble n a b c d → readAt s comment at ≡ trouble n a b c d
+  pub comment-no : {n a b c d : ℕ} → parsed s (many commentTurn) at (at + 2) ≡ trouble n a b c d → readAt s comment at ≡ trouble n a b c d
   unfolding parse comment
   comment-no e = two-steps s (suc (length s)) at at (seq (many commentTurn) (seq step step)) i ∙ rw e
 
-  pub comment-got : {o : Forest} {p : ℕ} → parse s (suc (length s)) (many commentTurn) at (at + 2) ≡ got true o p → p + 2 ≤ length s
+  pub comment-got : {o : Forest} {p : ℕ} → parsed s (many commentTurn) at (at + 2) ≡ got true o p → p + 2 ≤ length s
       → readAt s comment at ≡ got true (byte (byteAt s at) nil ⋈ (byte (byteAt s (at + 1)) nil ⋈ (o ⋈ (byte (byteAt s p) nil ⋈ byte (byteAt s (p + 1)) nil)))) (p + 2)
   unfolding parse comment
   comment-got {o} {p} e j =
       let k : p + 1 + 1 ≡ p + 2 = omega arith in
       two-steps s (suc (length s)) at at (seq (many commentTurn) (seq step step)) i ∙ rw (e, lt-ltb p (length s) (omega arith), lt-ltb (p + 1) (length s) (omega arith), k)
 
-  pub line-no : {n a b c d : ℕ} → parse s (suc (length s)) (many lineTurn) 0 (at + 2) ≡ trouble n a b c d → readAt s lineComment at ≡ trouble n a b c d
+  pub line-no : {n a b c d : ℕ} → parsed s (many lineTurn) 0 (at + 2) ≡ trouble n a b c d → readAt s lineComment at ≡ trouble n a b c d
   unfolding lineComment
   line-no e = two-steps s (suc (length s)) 0 at _ i ∙ rw e
 
-  pub line-got : {o : Forest} {p : ℕ} → parse s (suc (length s)) (many lineTurn) 0 (at + 2) ≡ got true o p
+  pub line-got : {o : Forest} {p : ℕ} → parsed s (many lineTurn) 0 (at + 2) ≡ got true o p
       → readAt s lineComment at ≡ got true (byte (byteAt s at) nil ⋈ (byte (byteAt s (at + 1)) nil ⋈ o)) p
   unfolding lineComment
   line-got e = two-steps s (suc (length s)) 0 at _ i ∙ rw e

@@ -11,7 +11,7 @@ use lib.Dec.{leb, ltb}
 use borrow.Author.Tests.{leb-true, ltb-true, ltb-false, eq-eqb}
 use Rattle.rules.specs.Forest.{Forest, nil, _⋈_}
 use Rattle.rules.specs.Rule.{Place, Test, Rule, done, step, refuse, when, seq}
-use Rattle.rules.specs.Parse.{got, pick, behind, byteAt, repeat, parse}
+use Rattle.rules.specs.Parse.{got, pick, behind, byteAt, repeat, parse, parsed}
 use Rattle.rules.proofs.Run.{both, never}
 use Rattle.rules.proofs.Got.{trouble-got, refusal-got, got-same, SeqOut, two, one, seq-read, pick-case}
 use Rattle.rules.proofs.Local.{local-got}
@@ -145,9 +145,9 @@ pub data Cut (s : List ℕ) (p : ℕ) : Type 0 where
 
 module _ (s : List ℕ) where
   -- A turn that goes on reads a sequence.
-  turn-sequence : (at : ℕ) {o : Forest} {q : ℕ} → turning s at ≡ got true o q → parse s (suc (length s)) sequence at at ≡ got true o q
+  turn-sequence : (at : ℕ) {o : Forest} {q : ℕ} → turning s at ≡ got true o q → parsed s sequence at at ≡ got true o q
   unfolding turning parse
-  turn-sequence at h = pick-case (end (byteAt s at)) (got false nil at) (parse s (suc (length s)) sequence at at) h (λ z. never (got-same z .0)) (λ z. z)
+  turn-sequence at h = pick-case (end (byteAt s at)) (got false nil at) (parsed s sequence at at) h (λ z. never (got-same z .0)) (λ z. z)
 
   -- No turn reads across such a place.
   crosses-not : {p : ℕ} → p ≤ length s → Cut s p → (at : ℕ) {o : Forest} {q : ℕ} → turning s at ≡ got true o q → at < p → p < q → ⊥
@@ -166,7 +166,7 @@ module _ (s : List ℕ) where
   -- At the end of the input the loop stops.
   turn-end : turning s (length s) ≡ got false nil (length s)
   unfolding turning parse
-  turn-end = ap (λ (b : Bool). pick b (got false nil (length s)) (parse s (suc (length s)) sequence (length s) (length s))) (eq-eqb (byteAt s (length s)) 256 (byte-beyond s (length s) (omega arith)))
+  turn-end = ap (λ (b : Bool). pick b (got false nil (length s)) (parsed s sequence (length s) (length s))) (eq-eqb (byteAt s (length s)) 256 (byte-beyond s (length s) (omega arith)))
 
 module _ (x y : List ℕ) where
   -- A turn over both that stays in the first piece reads so in the first piece alone.

@@ -9,7 +9,7 @@ use lib.Dec.{eqb}
 use borrow.Author.Tests.{eqb-true}
 use Rattle.rules.specs.Forest.{Label, Forest, nil, _⋈_}
 use Rattle.rules.specs.Rule.{Test, Rule, done, stop, when, seq, marked}
-use Rattle.rules.specs.Parse.{Answer, got, trouble, pick, behind, byteAt, repeat, parse, parseAll}
+use Rattle.rules.specs.Parse.{Answer, got, trouble, pick, behind, byteAt, repeat, parse, parseAll, parsed}
 use Rattle.rules.proofs.Run.{never, goes, on, got-goes, behind-none, loop-more}
 use Rattle.rules.proofs.Got.{trouble-got, got-same, behind-got}
 use Rattle.rules.proofs.Local.{Up, up, local-got}
@@ -72,10 +72,10 @@ module _ (C : ℕ → Rule) where
 -- ---- the rule from a place of an input on, and one turn of its loop
 
 pub reading : (s : List ℕ) (at : ℕ) → Answer
-reading s at = parse s (suc (length s)) utf8 0 at
+reading s at = parsed s utf8 0 at
 
 unfoldable pub turning : (s : List ℕ) (at : ℕ) → Answer
-turning s at = parse s (suc (length s)) oneTurn 0 at
+turning s at = parsed s oneTurn 0 at
 
 module _ (s : List ℕ) where
   pub reading-loop : (at : ℕ) → reading s at ≡ repeat (turning s) (suc (length s)) at
@@ -99,16 +99,16 @@ module _ (s : List ℕ) where
   reading-within at i h = top-got s (suc (length s)) utf8 0 at i h
 
   -- A sequence never stops the loop.
-  sequence-goes : (at : ℕ) {a : Bool} {o : Forest} {p : ℕ} → parse s (suc (length s)) sequence at at ≡ got a o p → a ≡ true
+  sequence-goes : (at : ℕ) {a : Bool} {o : Forest} {p : ℕ} → parsed s sequence at at ≡ got a o p → a ≡ true
   unfolding goes sequence second other
-  sequence-goes at h = got-goes (parse s (suc (length s)) sequence at at) (on s (suc (length s)) sequence refl at at) h
+  sequence-goes at h = got-goes (parsed s sequence at at) (on s (suc (length s)) sequence refl at at) h
 
   -- So the loop stops only where the input ends.
   pub turn-stops : Plain s → (at : ℕ) {o : Forest} {p : ℕ} → at ≤ length s → turning s at ≡ got false o p → (at ≡ length s) × (p ≡ at)
   unfolding turning parse
   turn-stops pl at {o} {p} i h = go (eqb (byteAt s at) 256) refl h
     where
-      go : (b : Bool) → eqb (byteAt s at) 256 ≡ b → pick b (got false nil at) (parse s (suc (length s)) sequence at at) ≡ got false o p → (at ≡ length s) × (p ≡ at)
+      go : (b : Bool) → eqb (byteAt s at) 256 ≡ b → pick b (got false nil at) (parsed s sequence at at) ≡ got false o p → (at ≡ length s) × (p ≡ at)
       go true c k = let l = byte-end s pl at (eqb-true (byteAt s at) 256 c) in (omega arith, sym (got-same k .2))
       go false c k = never (sequence-goes at k)
 

@@ -11,7 +11,7 @@ use lib.ListN.{length, getD}
 use borrow.Author.Tests.{eqb-true}
 use Rattle.rules.specs.Forest.{node, content, Forest, nil, group, _⋈_, width}
 use Rattle.rules.specs.Rule.{Rule}
-use Rattle.rules.specs.Parse.{got, pick, byteAt, parse, parseAll}
+use Rattle.rules.specs.Parse.{got, pick, byteAt, parse, parseAll, parsed}
 use Rattle.rules.specs.Record.{rowWords, count, records}
 use Rattle.rules.proofs.Run.{wide-got}
 use Rattle.rules.proofs.Ends.{top-got}
@@ -83,8 +83,8 @@ module _ (t : Rule) {g k : Mode} (flow : L near t g k) (s : List ℕ) (ps : Plai
       zeros : 0 + start ω ≡ start ω
       zeros = omega arith
 
-      was : parse s (suc (length s)) (contentOf d) (there .at-mark) (start ω) ≡ got true c₀ (start ω + width c₀)
-      was = subst (λ (n : ℕ). parse s (suc (length s)) (contentOf d) (there .at-mark) n ≡ got true c₀ (n + width c₀)) zeros (there .was)
+      was : parsed s (contentOf d) (there .at-mark) (start ω) ≡ got true c₀ (start ω + width c₀)
+      was = subst (λ (n : ℕ). parsed s (contentOf d) (there .at-mark) n ≡ got true c₀ (n + width c₀)) zeros (there .was)
 
 -- ---- of readings
 

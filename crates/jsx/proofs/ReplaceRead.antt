@@ -9,7 +9,7 @@ use lib.ListN.{length, take, drop, length-append, length-drop, take-append-drop}
 use lib.Seq.{length-take-le}
 use Rattle.rules.specs.Forest.{Forest, nil, width}
 use Rattle.rules.specs.Rule.{Rule}
-use Rattle.rules.specs.Parse.{got, byteAt, parse, parseAll}
+use Rattle.rules.specs.Parse.{got, byteAt, parse, parseAll, parsed}
 use Rattle.rules.proofs.Run.{wide-got}
 use Rattle.rules.proofs.Local.{local-got}
 use Rattle.rules.proofs.Ends.{top-got, sees, turn-last}
@@ -34,7 +34,7 @@ backs : (s : List ℕ) (b j : ℕ) → b ≤ length s → byteAt (drop b s) j �
 backs s b j le = byte-behind (take b s) (drop b s) j ∙ (λ k. byteAt (take-append-drop b s k) (length-take-le b s le k + j))
 
 -- t: what reads the whole.
-module _ (t : Rule) (g k : Mode) (ut : L near t g k) (s y : List ℕ) (py : Plain y) (d : ℕ) (c₀ u v : Forest) (q : ℕ) (hs : parse s (suc (length s)) t 0 0 ≡ got true u q) (ω : Spot d c₀ u) (hy : Reads (run d) y v) where
+module _ (t : Rule) (g k : Mode) (ut : L near t g k) (s y : List ℕ) (py : Plain y) (d : ℕ) (c₀ u v : Forest) (q : ℕ) (hs : parsed s t 0 0 ≡ got true u q) (ω : Spot d c₀ u) (hy : Reads (run d) y v) where
   p : ℕ
   p = start ω
 
@@ -44,9 +44,9 @@ module _ (t : Rule) (g k : Mode) (ut : L near t g k) (s y : List ℕ) (py : Plai
   f : Content contentOf closer wellPaired s (suc (length s)) d c₀ (0 + start ω)
   f = found contentOf closer wellPaired s (suc (length s)) d c₀ ut 0 0 true u q hs tt ω .1
 
-  was : parse s (suc (length s)) (children (within d)) (f .at-mark) p ≡ got true c₀ b
+  was : parsed s (children (within d)) (f .at-mark) p ≡ got true c₀ b
   unfolding p b
-  was = ap (parse s (suc (length s)) (children (within d)) (f .at-mark)) e ∙ f .was ∙ ap (λ (n : ℕ). got true c₀ (n + width c₀)) (sym e)
+  was = ap (parsed s (children (within d)) (f .at-mark)) e ∙ f .was ∙ ap (λ (n : ℕ). got true c₀ (n + width c₀)) (sym e)
     where
       e : start ω ≡ 0 + start ω
       e = omega arith
@@ -98,17 +98,17 @@ module _ (t : Rule) (g k : Mode) (ut : L near t g k) (s y : List ℕ) (py : Plai
           (suc (length s)) (suc (length z)) (child (within d)) (f .at-mark) 0 b (length y) (omega (arith, length-z)) (omega arith) (le-refl _) (sees s (suc (length s)) (child (within d)) (f .at-mark) b b-le) h (omega (arith, b-le))
 
   -- y, in front of the closing tag
-  content : parse z (suc (length z)) (children (within d)) 0 0 ≡ got true v (length y)
+  content : parsed z (children (within d)) 0 0 ≡ got true v (length y)
   unfolding children parse z
   content = front y (drop b s) py (suc (length y)) (suc (length z)) 0 d (omega arith) 1 nil (length y) (turn-last (cbody z (suc (length z)) 0 d) 0 (length y) halt) (suc (length y)) 0 (omega arith) (Y .1) (Y .2) (suc (length z)) (omega (arith, length-z, b-le))
       ∙ ap (λ (n : Forest). got true n (length y)) (join-nil textLabel v)
     where
-      Y : (n : ℕ) × (parse y (suc (length y)) (children (within d)) 0 0 ≡ got true v n) × (byteAt y n ≡ 256)
+      Y : (n : ℕ) × (parsed y (children (within d)) 0 0 ≡ got true v n) × (byteAt y n ≡ 256)
       Y = run-of d y v hy
 
-  reads : (m : ℕ) → parse s′ (suc (length s′)) (contentOf d) m p ≡ got true v (p + length y)
+  reads : (m : ℕ) → parsed s′ (contentOf d) m p ≡ got true v (p + length y)
   unfolding s′
-  reads m = ap (parse s′ (suc (length s′)) (children (within d)) m) (omega (arith, length-p)) ∙ moved (take p s) z (children (within d)) 0 m 0 (omega arith) content ∙ ap (λ (n : ℕ). got true v (n + length y)) length-p
+  reads m = ap (parsed s′ (children (within d)) m) (omega (arith, length-p)) ∙ moved (take p s) z (children (within d)) 0 m 0 (omega arith) content ∙ ap (λ (n : ℕ). got true v (n + length y)) length-p
 
   ante : (n : ℕ) → n < p → byteAt s n ≡ byteAt s′ n
   unfolding s′

@@ -11,10 +11,10 @@ use lib.Dec.{eqb}
 use borrow.Author.Tests.{eq-eqb, ne-eqb, lt-ltb}
 use Rattle.rules.specs.Forest.{Forest, nil, byte, _⋈_}
 use Rattle.rules.specs.Rule.{Rule, step, when, seq}
-use Rattle.rules.specs.Parse.{Answer, got, trouble, pick, behind, byteAt, opens, parse}
+use Rattle.rules.specs.Parse.{Answer, got, trouble, pick, behind, byteAt, opens, parse, readAt}
 use Rattle.rules.proofs.Run.{goes, on, got-goes}
 use Rattle.jsx.specs.Byte.{need}
-use Rattle.lex.specs.Contract.{readAt, view, outOf, Leaf}
+use Rattle.lex.specs.Contract.{view, outOf, Leaf}
 use Rattle.lex.specs.declared.Ans.{Ans}
 use Rattle.lex.specs.declared.Ans.the-variants.{Got, No}
 

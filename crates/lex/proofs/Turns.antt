@@ -7,7 +7,7 @@ use native.Mathlib.Omega.{arith}
 use lib.ListN.{length}
 use Rattle.rules.specs.Forest.{Forest, nil, _⋈_}
 use Rattle.rules.specs.Rule.{Rule, many}
-use Rattle.rules.specs.Parse.{got, trouble, behind, repeat, parse}
+use Rattle.rules.specs.Parse.{got, trouble, behind, repeat, parse, parsed}
 use Rattle.rules.proofs.Run.{behind-none, loop-more, loop-ends, loop-no}
 
 -- The loop `many t` from `from` on, with the mark e, has come to p.
@@ -17,10 +17,10 @@ pub record Turns (s : List ℕ) (t : Rule) (e from p : ℕ) : Type 0 where
   pub fuel : ℕ
   pub acc : Forest
   pub enough : length s < fuel + p
-  pub so : parse s (suc (length s)) (many t) e from ≡ behind acc (repeat (parse s (suc (length s)) t e) fuel p)
+  pub so : parsed s (many t) e from ≡ behind acc (repeat (parsed s t e) fuel p)
 
 module _ (s : List ℕ) (t : Rule) (e at : ℕ) where
-  pub begin-so : parse s (suc (length s)) (many t) e at ≡ behind nil (repeat (parse s (suc (length s)) t e) (suc (length s)) at)
+  pub begin-so : parsed s (many t) e at ≡ behind nil (repeat (parsed s t e) (suc (length s)) at)
   unfolding parse
   begin-so = sym (behind-none _)
 
@@ -29,15 +29,15 @@ module _ (s : List ℕ) (t : Rule) (e at : ℕ) where
 
 module _ {s : List ℕ} {t : Rule} {e from p : ℕ} (l : Turns s t e from p) where
   -- One more turn, which goes on.
-  abbrev pub turns-more : {o : Forest} {q : ℕ} → parse s (suc (length s)) t e p ≡ got true o q → p < q → q ≤ length s → Turns s t e from q
+  abbrev pub turns-more : {o : Forest} {q : ℕ} → parsed s t e p ≡ got true o q → p < q → q ≤ length s → Turns s t e from q
   turns-more {o} {q} b k i =
-      let g = loop-more _ (parse s (suc (length s)) t e) (length s) (l .acc) (l .fuel) p (l .so) (l .enough) (l .inside) b k in
+      let g = loop-more _ (parsed s t e) (length s) (l .acc) (l .fuel) p (l .so) (l .enough) (l .inside) b k in
       record { past = omega (arith, l .past); inside = i; fuel = g .0; acc = l .acc ⋈ o; enough = g .1; so = g .2 }
 
   -- The last turn, which reads nothing.
-  pub turns-end : parse s (suc (length s)) t e p ≡ got false nil p → parse s (suc (length s)) (many t) e from ≡ got true (l .acc) p
-  turns-end b = loop-ends _ (parse s (suc (length s)) t e) (length s) (l .acc) (l .fuel) p (l .so) (l .enough) (l .inside) b
+  pub turns-end : parsed s t e p ≡ got false nil p → parsed s (many t) e from ≡ got true (l .acc) p
+  turns-end b = loop-ends _ (parsed s t e) (length s) (l .acc) (l .fuel) p (l .so) (l .enough) (l .inside) b
 
   -- A turn that refuses.
-  pub turns-no : {n a b c d : ℕ} → parse s (suc (length s)) t e p ≡ trouble n a b c d → parse s (suc (length s)) (many t) e from ≡ trouble n a b c d
-  turns-no b = loop-no _ (parse s (suc (length s)) t e) (length s) (l .acc) (l .fuel) p (l .so) (l .enough) (l .inside) b
+  pub turns-no : {n a b c d : ℕ} → parsed s t e p ≡ trouble n a b c d → parsed s (many t) e from ≡ trouble n a b c d
+  turns-no b = loop-no _ (parsed s t e) (length s) (l .acc) (l .fuel) p (l .so) (l .enough) (l .inside) b

@@ -7,14 +7,10 @@ use lib.ListN.{length, getD}
 use lib.Dec.{eqb}
 use Rattle.rules.specs.Forest.{Forest, nil}
 use Rattle.rules.specs.Rule.{Rule, step, when, _⇒_∣_}
-use Rattle.rules.specs.Parse.{Answer, got, trouble, pick, parse}
+use Rattle.rules.specs.Parse.{Answer, got, trouble, pick, readAt}
 use Rattle.jsx.specs.Byte.{need}
 use Rattle.lex.specs.declared.Ans.{Ans}
 use Rattle.lex.specs.declared.Ans.the-variants.{Got, No}
-
--- What the rule t reads at a place of s.
-abbrev pub readAt : List ℕ → Rule → ℕ → Answer
-readAt s t at = parse s (suc (length s)) t 0 at
 
 -- What the code returns: the next place and a number that stands for what was read, or the refusal.
 abbrev pub view : (Bool → Forest → ℕ) → Answer → Ans

@@ -9,10 +9,10 @@ use lib.Dec.{eqb, leb}
 use borrow.Author.Tests.{ne-eqb, eqb-true, le-leb, leb-true}
 use Rattle.rules.specs.Forest.{node, direct}
 use Rattle.rules.specs.Rule.{Test}
-use Rattle.rules.specs.Parse.{pick, byteAt}
+use Rattle.rules.specs.Parse.{pick, byteAt, readAt}
 use Rattle.rules.proofs.Run.{never}
 use Rattle.jsx.specs.Name.{has, same, firstIs, part, dashed, isThis, opensReference, oneName, objectName}
-use Rattle.lex.specs.Contract.{readAt, outOf, Leaf, part as bytes}
+use Rattle.lex.specs.Contract.{outOf, Leaf, part as bytes}
 use Rattle.lex.specs.declared.Ans.{Ans}
 use Rattle.lex.specs.declared.Ans.the-variants.{Got}
 use Rattle.lex.proofs.Laws.{leaf-number}

@@ -8,13 +8,13 @@ use lib.ListN.{length}
 use lib.Seq.{sets}
 use Rattle.rules.specs.Forest.{Label, node, Forest, nil, group, direct}
 use Rattle.rules.specs.Rule.{Test, Rule, after, _⨾_}
-use Rattle.rules.specs.Parse.{got, trouble, behind, byteAt}
+use Rattle.rules.specs.Parse.{got, trouble, behind, byteAt, readAt}
 use Rattle.rules.proofs.Again.{seq-no, again, after-got, after-no}
 use Rattle.jsx.specs.Byte.{is}
 use Rattle.jsx.specs.Blank.{blanks}
 use Rattle.jsx.specs.Name.{part, dashed, onePart, otherPart, namespaced, member, elementName, attributeName}
 use Rattle.jsx.proofs.Again.{onePartOf, otherPartOf, look-got, onePart-again, otherPart-again}
-use Rattle.lex.specs.Contract.{readAt, outOf, nothing, Leaf, part as bytes}
+use Rattle.lex.specs.Contract.{outOf, nothing, Leaf, part as bytes}
 use Rattle.lex.specs.declared.Ans.{Ans}
 use Rattle.lex.specs.declared.Ans.the-variants.{Got}
 use Rattle.lex.proofs.Laws.{leaf-got, leaf-number}

@@ -8,9 +8,9 @@ use lib.ListN.{length}
 use lib.Seq.{sets}
 use Rattle.rules.specs.Forest.{Forest}
 use Rattle.rules.specs.Rule.{Rule}
-use Rattle.rules.specs.Parse.{Answer, got, trouble}
+use Rattle.rules.specs.Parse.{Answer, got, trouble, readAt}
 use Rattle.rules.specs.Record.{count, records}
-use Rattle.lex.specs.Contract.{readAt, view, outOf}
+use Rattle.lex.specs.Contract.{view, outOf}
 use Rattle.lex.specs.declared.Ans.{Ans}
 use Rattle.lex.specs.declared.Ans.the-variants.{Got, No}
 use Rattle.lex.proofs.Laws.{none-got, this-got, view-no}

@@ -9,14 +9,14 @@ use lib.Dec.{lit<}
 use lib.Seq.{sets, length-sets}
 use borrow.Author.Tests.{eq-eqb}
 use Rattle.rules.specs.Forest.{node, Forest, nil, group, _⋈_, width, direct}
-use Rattle.rules.specs.Parse.{Answer, got, trouble, behind, byteAt}
+use Rattle.rules.specs.Parse.{Answer, got, trouble, behind, byteAt, readAt}
 use Rattle.rules.specs.Record.{count, records}
 use Rattle.rules.proofs.Forests.{behind-nil, behind-assoc}
 use Rattle.jsx.specs.Byte.{is}
 use Rattle.jsx.specs.Blank.{blanks}
 use Rattle.jsx.specs.Name.{has, part, dashed, objectName, dottedPart, dotted, member}
 use Rattle.jsx.proofs.Again.{nodeAround, otherPartOf, objectOf, member-again}
-use Rattle.lex.specs.Contract.{readAt, outOf, nothing, Leaf, part as bytes}
+use Rattle.lex.specs.Contract.{outOf, nothing, Leaf, part as bytes}
 use Rattle.lex.specs.declared.Ans.{Ans}
 use Rattle.lex.specs.declared.Ans.the-variants.{Got, No}
 use Rattle.lex.proofs.Laws.{before-end, leaf-no, leaf-got}

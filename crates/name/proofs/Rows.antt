@@ -7,14 +7,13 @@ use native.Mathlib.Omega.{arith}
 use lib.ListN.{length}
 use lib.Seq.{sets}
 use Rattle.rules.specs.Forest.{Label, node, Forest, nil, byte, group, _⋈_, width, direct}
-use Rattle.rules.specs.Parse.{got, byteAt}
+use Rattle.rules.specs.Parse.{got, byteAt, readAt}
 use Rattle.rules.specs.Record.{rowWords, count, records}
 use Rattle.rules.proofs.Forests.{width-behind, count-behind, records-join}
 use Rattle.rules.proofs.Run.{wide-got}
 use Rattle.jsx.specs.Blank.{blanks}
 use Rattle.jsx.specs.Name.{dashed, part}
 use Rattle.jsx.proofs.Again.{otherPartOf}
-use Rattle.lex.specs.Contract.{readAt}
 use Rattle.table.specs.Contract.{nodeRow, leafRow}
 use Rattle.table.proofs.Laws.{stored, headed, rows-none, leaf-row}
 use Rattle.name.proofs.Flat.{blanks-none, part-none}

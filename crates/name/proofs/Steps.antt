@@ -7,7 +7,7 @@ use Prim.Native.Char.{Char}
 use lib.ListN.{length}
 use Rattle.rules.specs.Forest.{node, Forest, nil, byte, group, _⋈_, direct, inside}
 use Rattle.rules.specs.Rule.{Rule, step, _⨾_}
-use Rattle.rules.specs.Parse.{Answer, got, trouble, behind, byteAt, parse}
+use Rattle.rules.specs.Parse.{Answer, got, trouble, behind, byteAt, parse, readAt}
 use Rattle.rules.proofs.Forests.{behind-nil}
 use Rattle.rules.proofs.Run.{behind-behind, unmarked}
 use Rattle.rules.proofs.Got.{trouble-got, got-same, going}
@@ -17,7 +17,6 @@ use Rattle.jsx.specs.Byte.{is, need, expect}
 use Rattle.jsx.specs.Blank.{blanks}
 use Rattle.jsx.specs.Name.{has, part, otherPart, namespaced, dottedPart, dotted}
 use Rattle.jsx.proofs.Again.{nodeAround, otherPartOf, dotted-once, otherPart-again, namespaced-again}
-use Rattle.lex.specs.Contract.{readAt}
 use Rattle.lex.proofs.Laws.{when-yes, step-is, seq-is}
 use Rattle.lex.proofs.Bare.{goes-part}
 use Rattle.name.proofs.Flat.{calm-other}

@@ -7,11 +7,11 @@ use lib.ListN.{length}
 use lib.Seq.{sets}
 use Rattle.rules.specs.Forest.{Forest, direct}
 use Rattle.rules.specs.Rule.{Rule}
-use Rattle.rules.specs.Parse.{got}
+use Rattle.rules.specs.Parse.{got, readAt}
 use Rattle.rules.specs.Record.{count, records}
 use Rattle.jsx.specs.Blank.{blanks}
 use Rattle.jsx.specs.Name.{part, dashed}
-use Rattle.lex.specs.Contract.{readAt, view, outOf}
+use Rattle.lex.specs.Contract.{view, outOf}
 use Rattle.lex.specs.declared.Ans.{Ans}
 use Rattle.lex.specs.declared.Ans.the-variants.{Got}
 

@@ -8,7 +8,7 @@ use native.Mathlib.Nat.{le-refl}
 use lib.ListN.{length}
 use Rattle.rules.specs.Forest.{Label, node, content, Forest, nil, group, _⋈_, width}
 use Rattle.rules.specs.Rule.{Test, Verdict, fine, Rule, step, seq, many, wrap, said, paired}
-use Rattle.rules.specs.Parse.{Answer, got, pick, andThen, behind, byteAt, opens, repeat, parse}
+use Rattle.rules.specs.Parse.{Answer, got, pick, andThen, behind, byteAt, opens, repeat, parse, parsed}
 use Rattle.rules.proofs.Run.{wide-got, wide, Wide, wide-repeat, got-goes, goes-repeat}
 use Rattle.rules.proofs.Got.{trouble-got, refusal-got, got-same, then-got, going, SeqOut, two, one, seq-read, SaidOut, so, otherwise, stopped, said-read, wrap-read, PairOut, lone, full, pair-out}
 use Rattle.rules.proofs.Local.{up, up-got, Looks, local-got}
@@ -61,12 +61,12 @@ module _ (C : ℕ → Rule) (Q : Test) (R : Label → Forest → Type 0) (s s′
     (post : (n n′ : ℕ) → n + K′ ≡ n′ + K → p + width c₀ ≤ n → byteAt s n ≡ byteAt s′ n′)
     (lengths : length s + K′ ≡ length s′ + K) (shift : p + width c₀ + K′ ≡ B + K) (pB : p ≤ B)
     (closed : (j : ℕ) → j + 1 ≡ p → Q (byteAt s j) ≡ true)
-    (reads : (m : ℕ) → parse s′ (suc (length s′)) (C d) m p ≡ got true c₁ B) where
+    (reads : (m : ℕ) → parsed s′ (C d) m p ≡ got true c₁ B) where
   abbrev old : Rule → ℕ → ℕ → Answer
-  old t e at = parse s (suc (length s)) t e at
+  old t e at = parsed s t e at
 
   abbrev new : Rule → ℕ → ℕ → Answer
-  new t e at = parse s′ (suc (length s′)) t e at
+  new t e at = parsed s′ t e at
 
   -- Before the content.
   early : (t : Rule) (e e′ at : ℕ) {a : Bool} {o : Forest} {p₁ : ℕ} → old t e at ≡ got a o p₁ → Looks (Lacks Q) s p (suc (length s)) t e at → p₁ ≤ p → at ≤ p → new t e′ at ≡ got a o p₁

@@ -85,6 +85,14 @@ parse s fuel (paired t d c u v) e at =
     judged at q (v o r) (got true (o ⋈ group (content d) h r) z))))
     (got true o p))
 
+-- What a rule reads of the input s at a place, with the mark at e: turns never run out.
+abbrev pub parsed : (s : List ℕ) → Rule → (e at : ℕ) → Answer
+parsed s = parse s (suc (length s))
+
+-- The same with no mark.
+abbrev pub readAt : (s : List ℕ) → Rule → (at : ℕ) → Answer
+readAt s t at = parsed s t 0 at
+
 -- A rule from the input's first byte on.
 unfoldable pub parseAll : Rule → List ℕ → Answer
-parseAll t s = parse s (suc (length s)) t 0 0
+parseAll t s = readAt s t 0

@@ -8,14 +8,14 @@ use lib.ListN.{length}
 use lib.Dec.{eqb}
 use borrow.Author.Tests.{eq-eqb, ne-eqb, eqb-true}
 use Rattle.rules.specs.Forest.{Forest}
-use Rattle.rules.specs.Parse.{got, pick, byteAt}
+use Rattle.rules.specs.Parse.{got, pick, byteAt, readAt}
 use Rattle.rules.proofs.Run.{never, both}
 use Rattle.rules.proofs.Got.{got-same}
 use Rattle.rules.proofs.Local.{up-got}
 use Rattle.jsx.specs.Blank.{blanks}
 use Rattle.jsx.specs.Name.{same, otherPart}
 use Rattle.jsx.specs.Closing.{nodesOf, allSame}
-use Rattle.lex.specs.Contract.{readAt, Past}
+use Rattle.lex.specs.Contract.{Past}
 use Rattle.same.specs.Contract.{Reads, sameNames, Dotted, partsFrom}
 use Rattle.same.proofs.Names as Names
 use Rattle.same.proofs.Forms.{nameAt, bytesTo, oneKind, one-low, Shape, shapes, Form, one, pair, more}

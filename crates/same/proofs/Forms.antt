@@ -9,7 +9,7 @@ use lib.Dec.{eqb}
 use borrow.Author.Tests.{ne-eqb, eqb-true}
 use Rattle.rules.specs.Forest.{Label, node, content, Forest, nil, group, _⋈_, direct}
 use Rattle.rules.specs.Rule.{many, _⨾_}
-use Rattle.rules.specs.Parse.{Answer, got, pick, behind, byteAt, parse}
+use Rattle.rules.specs.Parse.{Answer, got, pick, behind, byteAt, parse, parsed, readAt}
 use Rattle.rules.proofs.Run.{both-read}
 use Rattle.rules.proofs.Got.{false-true, got-same, then-got, behind-out, going}
 use Rattle.rules.proofs.Local.{up-got}
@@ -18,7 +18,7 @@ use Rattle.jsx.specs.Blank.{blanks}
 use Rattle.jsx.specs.Name.{has, firstIs, dashed, isThis, opensReference, oneName, part as namePart, otherPart, objectName, dotted, elementName}
 use Rattle.jsx.specs.Closing.{nodesOf, severalParts, partsOf, allSame, sameName}
 use Rattle.jsx.proofs.Again.{nodeAround, onePartOf, otherPartOf, objectOf, elementName-once}
-use Rattle.lex.specs.Contract.{readAt, outOf, part, Past}
+use Rattle.lex.specs.Contract.{outOf, part, Past}
 use Rattle.same.specs.Contract.{Reads, Named, sameNames, Dotted, partsFrom}
 use Rattle.lex.proofs.Bare.{flat-got, direct-got, bare-part, bare-blanks}
 use Rattle.same.proofs.Nodes.{nodes-flat}
@@ -145,7 +145,7 @@ module _ {s : List ℕ} {a b : ℕ} (n : Named s a b) where
   look : (w : Forest) × (e : ℕ) × (v : Forest) × (q : ℕ) × (readAt s namePart a ≡ got true w e) × (readAt s blanks e ≡ got true v q)
   unfolding elementName parse
   look =
-      let y = then-got (parse s (suc (length s)) (namePart ⨾ blanks) 0 a) _ (n .read) in
+      let y = then-got (parsed s (namePart ⨾ blanks) 0 a) _ (n .read) in
       let z = both-read s (suc (length s)) namePart blanks 0 a (going s (suc (length s)) (namePart ⨾ blanks) 0 a Names.goes-look (y .3)) in
       (z .0, z .1, z .2, y .2, z .3, z .4)
 

@@ -9,12 +9,12 @@ use lib.Dec.{eqb}
 use borrow.Author.Tests.{eq-eqb, ne-eqb}
 use Rattle.rules.specs.Forest.{Forest}
 use Rattle.rules.specs.Rule.{many}
-use Rattle.rules.specs.Parse.{got}
+use Rattle.rules.specs.Parse.{got, readAt}
 use Rattle.rules.proofs.Got.{got-same}
 use Rattle.jsx.specs.Blank.{blanks}
 use Rattle.jsx.specs.Name.{same, part as namePart, dotted}
 use Rattle.jsx.specs.Closing.{nodesOf, allSame}
-use Rattle.lex.specs.Contract.{readAt, Past}
+use Rattle.lex.specs.Contract.{Past}
 use Rattle.same.specs.Contract.{Reads, Dotted, partsFrom}
 use Rattle.same.proofs.Names as Names
 use Rattle.same.proofs.Forms.{bytesTo}

@@ -10,7 +10,7 @@ use lib.Dec.{eqb, ltb}
 use borrow.Author.Tests.{ltb-true}
 use Rattle.rules.specs.Forest.{node, Forest, nil, byte, _⋈_, direct, inside}
 use Rattle.rules.specs.Rule.{Rule, done, refuse, many, fromMark, _⨾_}
-use Rattle.rules.specs.Parse.{Answer, got, trouble, pick, behind, byteAt, repeat, parse}
+use Rattle.rules.specs.Parse.{Answer, got, trouble, pick, behind, byteAt, repeat, parse, parsed, readAt}
 use Rattle.rules.proofs.Run.{goes, both-read}
 use Rattle.rules.proofs.Forests.{behind-nil, behind-assoc}
 use Rattle.rules.proofs.Got.{trouble-got, false-true, got-same, then-got, behind-out, going, SaidOut, so, otherwise, stopped, said-read, wrap-read}
@@ -24,7 +24,7 @@ use Rattle.jsx.specs.Blank.{blanks}
 use Rattle.jsx.specs.Name.{has, dashed, part as namePart, otherPart, dottedPart, dotted}
 use Rattle.jsx.specs.Closing.{nodesOf}
 use Rattle.jsx.proofs.Again.{otherPartOf, dotted-once}
-use Rattle.lex.specs.Contract.{readAt, outOf, part, Leaf, Past}
+use Rattle.lex.specs.Contract.{outOf, part, Leaf, Past}
 use Rattle.lex.specs.declared.Ans.{Ans}
 use Rattle.lex.specs.declared.Ans.the-variants.{Got, No}
 use Rattle.lex.proofs.Laws as Lex
@@ -114,7 +114,7 @@ module _ (s : List ℕ) where
     pub read : readAt s namePart at ≡ got true w p
     pub nodes : nodesOf u ≡ part s at (p - at) ∷ []
 
-  pub other-read : (e at : ℕ) {u : Forest} {p : ℕ} → parse s (suc (length s)) otherPart e at ≡ got true u p → OnePart at p u
+  pub other-read : (e at : ℕ) {u : Forest} {p : ℕ} → parsed s otherPart e at ≡ got true u p → OnePart at p u
   unfolding otherPart
   other-read e at h =
       let y = wrap-read s (suc (length s)) (λ o. node Kind.otherPart (dashed (direct o))) namePart e at h in
@@ -125,7 +125,7 @@ module _ (s : List ℕ) where
   unfolding dottedPart parse
   dotted-read at {u} {p} h = go (said-read s (suc (length s)) _ otherPart (refuse 10 fromMark) done at at h)
     where
-      go : SaidOut (λ o. has "-" (direct (inside o))) (parse s (suc (length s)) otherPart at at) (parse s (suc (length s)) (refuse 10 fromMark) at) (parse s (suc (length s)) done at) true u p → OnePart at p u
+      go : SaidOut (λ o. has "-" (direct (inside o))) (parsed s otherPart at at) (parsed s (refuse 10 fromMark) at) (parsed s done at) true u p → OnePart at p u
       go (so o₁ p₁ o₂ x c y w) = trouble-got y
       go (otherwise o₁ p₁ o₂ x c y w) =
           let g = got-same y in
@@ -174,17 +174,17 @@ module _ (s : List ℕ) where
 
   dotted-look : (e : ℕ) {a : Bool} {o : Forest} {p : ℕ} → readAt s dotted e ≡ got a o p → (v : Forest) × (q : ℕ) × (readAt s blanks e ≡ got true v q)
   unfolding dotted parse
-  dotted-look e k = let y = then-got (parse s (suc (length s)) blanks 0 e) _ k in (y .1, y .2, going s (suc (length s)) blanks 0 e goes-blanks (y .3))
+  dotted-look e k = let y = then-got (parsed s blanks 0 e) _ k in (y .1, y .2, going s (suc (length s)) blanks 0 e goes-blanks (y .3))
 
   -- The look-ahead of a turn has read the blanks.
   pub dotted-blanks : (e : ℕ) {b : ℕ} {u : Forest} → readAt s (many dotted) e ≡ got true u b → (v : Forest) × (q : ℕ) × (readAt s blanks e ≡ got true v q)
   unfolding parse
-  dotted-blanks e {b} {u} h = go (turn (parse s (suc (length s)) dotted 0) (length s) e h .1)
+  dotted-blanks e {b} {u} h = go (turn (parsed s dotted 0) (length s) e h .1)
     where
-      look : {a : Bool} {o : Forest} {p : ℕ} → parse s (suc (length s)) dotted 0 e ≡ got a o p → (v : Forest) × (q : ℕ) × (readAt s blanks e ≡ got true v q)
+      look : {a : Bool} {o : Forest} {p : ℕ} → parsed s dotted 0 e ≡ got a o p → (v : Forest) × (q : ℕ) × (readAt s blanks e ≡ got true v q)
       look k = dotted-look e k
 
-      go : Turn (parse s (suc (length s)) dotted 0) (length s) e u b → (v : Forest) × (q : ℕ) × (readAt s blanks e ≡ got true v q)
+      go : Turn (parsed s dotted 0) (length s) e u b → (v : Forest) × (q : ℕ) × (readAt s blanks e ≡ got true v q)
       go (last k) = look k
       go (goon o p v k l r w) = look k
 
@@ -199,18 +199,18 @@ module _ (s : List ℕ) where
   -- It is over, or a dot is next.
   pub rest-read : {e b q : ℕ} {u v : Forest} → b ≤ length s → readAt s blanks e ≡ got true v q → readAt s (many dotted) e ≡ got true u b → Rest e b q u
   unfolding parse nodesOf
-  rest-read {e} {b} {q} {u} {v} i k h = go (is "." (byteAt s q)) refl (dotted-once s (suc (length s)) 0 e k) (turn (parse s (suc (length s)) dotted 0) (length s) e h .1)
+  rest-read {e} {b} {q} {u} {v} i k h = go (is "." (byteAt s q)) refl (dotted-once s (suc (length s)) 0 e k) (turn (parsed s dotted 0) (length s) e h .1)
     where
       Next : Answer
-      Next = parse s (suc (length s)) (expect "." ⨾ blanks ⨾ dottedPart) 0 q
+      Next = parsed s (expect "." ⨾ blanks ⨾ dottedPart) 0 q
 
-      on : (o : Forest) (p : ℕ) (r : Forest) → behind v Next ≡ got true o p → e < p → repeat (parse s (suc (length s)) dotted 0) (length s) p ≡ got true r b → u ≡ o ⋈ r → Rest e b q u
+      on : (o : Forest) (p : ℕ) (r : Forest) → behind v Next ≡ got true o p → e < p → repeat (parsed s dotted 0) (length s) p ≡ got true r b → u ≡ o ⋈ r → Rest e b q u
       on o p r m l n w =
           let y = behind-out v Next m in
-          let z : readAt s (many dotted) p ≡ got true r b = refuel (parse s (suc (length s)) dotted 0) (λ at. up s (suc (length s)) dotted 0 at) (length s) (suc (length s)) p n (omega arith) in
+          let z : readAt s (many dotted) p ≡ got true r b = refuel (parsed s dotted 0) (λ at. up s (suc (length s)) dotted 0 at) (length s) (suc (length s)) p n (omega arith) in
           rest-more (omega (arith, up-got s (suc (length s)) (many dotted) 0 p z)) i k (y .1) z (w ∙ ap (λ (x : Forest). x ⋈ r) (y .2))
 
-      go : (c : Bool) → is "." (byteAt s q) ≡ c → readAt s dotted e ≡ pick c (behind v Next) (got false nil e) → Turn (parse s (suc (length s)) dotted 0) (length s) e u b → Rest e b q u
+      go : (c : Bool) → is "." (byteAt s q) ≡ c → readAt s dotted e ≡ pick c (behind v Next) (got false nil e) → Turn (parsed s dotted 0) (length s) e u b → Rest e b q u
       go true f m (last n) = let y = behind-out v Next (sym m ∙ n) in false-true refl (got-same (sym (y .1) ∙ going s (suc (length s)) (expect "." ⨾ blanks ⨾ dottedPart) 0 q goes-turn (y .1)) .0)
       go true f m (goon o p r n l w x) = on o p r (sym m ∙ n) l w x
       go false f m (last n) = let g = got-same (sym m ∙ n) in over f (g .2) (sym (ap nodesOf (g .1)))

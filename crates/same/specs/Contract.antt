@@ -6,12 +6,12 @@ use mathlib.Core.List.{List}
 use lib.ListN.{length}
 use Rattle.rules.specs.Forest.{node, content, Forest, nil, byte, group}
 use Rattle.rules.specs.Rule.{Rule, many, _⨾_}
-use Rattle.rules.specs.Parse.{got}
+use Rattle.rules.specs.Parse.{got, readAt}
 use Rattle.jsx.specs.Byte.{expect}
 use Rattle.jsx.specs.Blank.{blanks}
 use Rattle.jsx.specs.Name.{dottedPart, dotted, elementName}
 use Rattle.jsx.specs.Closing.{nodesOf, sameName}
-use Rattle.lex.specs.Contract.{readAt, outOf}
+use Rattle.lex.specs.Contract.{outOf}
 
 -- The rule t reads something at a place, and goes on.
 pub record Reads (s : List ℕ) (t : Rule) (at : ℕ) : Type 0 where

@@ -2,10 +2,11 @@
 ghost use mathlib.Core.Path.{_≡_};
 ghost use Prim.Native.Nat.{_-_, _≤_};
 ghost use lib.ListN.{length};
+ghost use Rattle.rules.specs.Parse.{readAt};
 ghost use Rattle.jsx.specs.Blank.{blanks};
 ghost use Rattle.jsx.specs.Name.{same, elementName, part as namePart};
 ghost use Rattle.jsx.specs.Closing.{allSame};
-ghost use Rattle.lex.specs.Contract.{readAt, outOf, part, Past};
+ghost use Rattle.lex.specs.Contract.{outOf, part, Past};
 ghost use Rattle.same.specs.Contract.{Reads, Named, sameNames, Dotted, partsFrom};
 use lex::Ans;
 

@@ -10,12 +10,12 @@ use lib.Dec.{leb, eqb, lit<}
 use borrow.Author.Tests.{le-leb, lt-leb, lt-ltb, eq-eqb, ne-eqb, not-true, not-false}
 use Rattle.rules.specs.Forest.{Forest, nil, byte, _⋈_}
 use Rattle.rules.specs.Rule.{Rule, stop, when, marked, _⨾_, _⇒_∣_}
-use Rattle.rules.specs.Parse.{got, trouble, pick, byteAt, parse}
+use Rattle.rules.specs.Parse.{got, trouble, pick, byteAt, parse, parsed, readAt}
 use Rattle.rules.proofs.Run.{goes}
 use Rattle.jsx.specs.Byte.{end, _‥_, _or_}
 use Rattle.jsx.specs.Utf8.{second, other, sequence}
 use Rattle.lex.proofs.Laws.{inside, test-inside, when-no, seq-no, leaf-stop, leaf-done}
-use Rattle.lex.specs.Contract.{readAt, nothing, Leaf}
+use Rattle.lex.specs.Contract.{nothing, Leaf}
 use Rattle.lex.specs.declared.Ans.the-variants.{Got, No}
 use Rattle.utf8.specs.Begun.{begun, Leads}
 use Rattle.utf8.specs.declared.Lead.{Lead}
@@ -147,9 +147,9 @@ test-no {r} e f = sym e ∙ not-true r f
 
 -- ---- what the code's `sequence` returns
 
-pub by-lead : (s : List ℕ) (p : ℕ) {b : ℕ} {r l : Lead} → Leads b r → r ≡ l → byteAt s p ≡ b → readAt s (marked sequence) p ≡ parse s (suc (length s)) (begun l) p p
+pub by-lead : (s : List ℕ) (p : ℕ) {b : ℕ} {r l : Lead} → Leads b r → r ≡ l → byteAt s p ≡ b → readAt s (marked sequence) p ≡ parsed s (begun l) p p
 unfolding parse
-by-lead s p f e i = f s (suc (length s)) p p i ∙ ap (λ (l : Lead). parse s (suc (length s)) (begun l) p p) e
+by-lead s p f e i = f s (suc (length s)) p p i ∙ ap (λ (l : Lead). parsed s (begun l) p p) e
 
 abbrev pub Refused : (s : List ℕ) (p : ℕ) → Type 0
 Refused s p = Leaf nothing (No 2 p p 0 0) s (marked sequence) p 1
@@ -166,13 +166,13 @@ no-lead s p f e i = leaf-stop nothing s (marked sequence) p 1 refl (by-lead s p 
 pub record Begins (s : List ℕ) (p n lo hi : ℕ) : Type 0 where
   pub lead : p < length s
   pub small : hi < 256
-  pub reads : readAt s (marked sequence) p ≡ parse s (suc (length s)) (begun (Of n lo hi)) p p
+  pub reads : readAt s (marked sequence) p ≡ parsed s (begun (Of n lo hi)) p p
 
 module _ {s : List ℕ} {p n lo hi : ℕ} (b : Begins s p n lo hi) where
-  refused : parse s (suc (length s)) (begun (Of n lo hi)) p p ≡ trouble 2 p p 0 0 → Refused s p
+  refused : parsed s (begun (Of n lo hi)) p p ≡ trouble 2 p p 0 0 → Refused s p
   refused e = leaf-stop nothing s (marked sequence) p 1 refl (b .reads ∙ e)
 
-  passed : (k : ℕ) (o : Forest) → p + k < length s → parse s (suc (length s)) (begun (Of n lo hi)) p p ≡ got true o (p + (k + 1)) → Passed s p (k + 1)
+  passed : (k : ℕ) (o : Forest) → p + k < length s → parsed s (begun (Of n lo hi)) p p ≡ got true o (p + (k + 1)) → Passed s p (k + 1)
   passed k o i e = leaf-done nothing s (marked sequence) p 1 (p + (k + 1)) 0 (b .reads ∙ e) refl (omega arith)
 
   pub no-second : (lo ‥ hi) (byteAt s (p + 1)) ≡ false → Refused s p

@@ -12,14 +12,14 @@ use borrow.Author.Tests.{eq-eqb, ne-eqb, eqb-true, lt-ltb}
 use types.Run.{OneOf}
 use Rattle.rules.specs.Forest.{node, Forest, nil, byte, group, _⋈_, direct}
 use Rattle.rules.specs.Rule.{Test, Rule, stop, step, refuse, when, many, marked, here, mark, _⨾_, _⇒_∣_}
-use Rattle.rules.specs.Parse.{Answer, got, trouble, pick, andThen, behind, byteAt, parse}
+use Rattle.rules.specs.Parse.{Answer, got, trouble, pick, andThen, behind, byteAt, parse, parsed, readAt}
 use Rattle.rules.proofs.Run.{never}
 use Rattle.rules.proofs.Mark.{any-mark}
 use Rattle.jsx.specs.Byte.{is, _or_, end, lineEnd, letter, digit, quote, need}
 use Rattle.jsx.specs.Name.{opensName, inWord, inName, has, dashed}
 use Rattle.jsx.specs.Text.{inText, text, quoted, quotedBy, quotedTurn}
 use Rattle.jsx.specs.Word.{word, refusedWord, primaryWord, digits, whole, fraction, number}
-use Rattle.lex.specs.Contract.{readAt, view, nothing, Leaf, part}
+use Rattle.lex.specs.Contract.{view, nothing, Leaf, part}
 use Rattle.lex.specs.declared.Ans.{Ans}
 use Rattle.lex.specs.declared.Ans.the-variants.{Got, No}
 use Rattle.lex.proofs.Bare.{bare, direct-got}
@@ -131,7 +131,7 @@ module _ (f : Test) {s : List ℕ} {e at p : ℕ} (v : Turns s (when f step stop
   abbrev pub run-more : f 256 ≡ false → f (byteAt s p) ≡ true → Turns s (when f step stop) e at (p + 1)
   run-more z h = let i = test-inside f z s p h in turns-more v (test-step s (suc (length s)) e p f stop h i) (omega arith) (omega arith)
 
-  pub run-ends : f (byteAt s p) ≡ false → parse s (suc (length s)) (run f) e at ≡ got true (v .acc) p
+  pub run-ends : f (byteAt s p) ≡ false → parsed s (run f) e at ≡ got true (v .acc) p
   run-ends h = turns-end v (test-stop s (suc (length s)) e p f step h)
 
 -- ---- a byte that passes a test, and a rule behind it
@@ -148,7 +148,7 @@ module _ (f : Test) (u : Rule) (s : List ℕ) (at : ℕ) where
   unfolding parse need
   front-no h = rw h (go (eqb (byteAt s at) 256))
     where
-      go : (b : Bool) → pick b (trouble 4 at at 0 0) (trouble 3 at at 0 0) ≡ andThen (pick b (trouble 4 at at 0 0) (trouble 3 at at 0 0)) (λ a o p. pick a (behind o (parse s (suc (length s)) u 0 p)) (got false o p))
+      go : (b : Bool) → pick b (trouble 4 at at 0 0) (trouble 3 at at 0 0) ≡ andThen (pick b (trouble 4 at at 0 0) (trouble 3 at at 0 0)) (λ a o p. pick a (behind o (parsed s u 0 p)) (got false o p))
       go true = refl
       go false = refl
 
@@ -219,11 +219,11 @@ module _ (s : List ℕ) (F e p q : ℕ) (t : Rule) where
     turn-in k = rw (h, k)
 
 module _ (s : List ℕ) (q : ℕ) (t : Rule) (at : ℕ) (i : at < length s) where
-  pub between-no : {n a b c d : ℕ} → parse s (suc (length s)) (many (turn q t)) at (at + 1) ≡ trouble n a b c d → readAt s (between q t) at ≡ trouble n a b c d
+  pub between-no : {n a b c d : ℕ} → parsed s (many (turn q t)) at (at + 1) ≡ trouble n a b c d → readAt s (between q t) at ≡ trouble n a b c d
   unfolding parse
   between-no h = rw (lt-ltb at (length s) i, h)
 
-  pub between-is : {o : Forest} {p : ℕ} → parse s (suc (length s)) (many (turn q t)) at (at + 1) ≡ got true o p → p < length s
+  pub between-is : {o : Forest} {p : ℕ} → parsed s (many (turn q t)) at (at + 1) ≡ got true o p → p < length s
       → readAt s (between q t) at ≡ got true (byte (byteAt s at) nil ⋈ (o ⋈ byte (byteAt s p) nil)) (p + 1)
   unfolding parse
   between-is {p = p} h j = rw (lt-ltb at (length s) i, h, lt-ltb p (length s) j)
@@ -242,11 +242,11 @@ either r s at h = go (eqb (byteAt s at) 39) refl
     go false e = ap (λ (q : ℕ). readAt s (r q) at) (sym (eqb-true (byteAt s at) 34 (third (eqb (byteAt s at) 34) (eqb (byteAt s at) 39) h e)))
 
 module _ (t : Rule) (s : List ℕ) (at : ℕ) (h : quote (byteAt s at) ≡ true) where
-  pub quotes-no : {n a b c d : ℕ} → parse s (suc (length s)) (many (turn (byteAt s at) t)) at (at + 1) ≡ trouble n a b c d
+  pub quotes-no : {n a b c d : ℕ} → parsed s (many (turn (byteAt s at) t)) at (at + 1) ≡ trouble n a b c d
       → readAt s (when (is "'") ⇒ between 39 t ∣ between 34 t) at ≡ trouble n a b c d
   quotes-no e = either (λ q. between q t) s at h ∙ between-no s (byteAt s at) t at (test-inside quote quote-end s at h) e
 
-  pub quotes-is : {o : Forest} {p : ℕ} → parse s (suc (length s)) (many (turn (byteAt s at) t)) at (at + 1) ≡ got true o p → p < length s
+  pub quotes-is : {o : Forest} {p : ℕ} → parsed s (many (turn (byteAt s at) t)) at (at + 1) ≡ got true o p → p < length s
       → readAt s (when (is "'") ⇒ between 39 t ∣ between 34 t) at ≡ got true (byte (byteAt s at) nil ⋈ (o ⋈ byte (byteAt s p) nil)) (p + 1)
   quotes-is e j = either (λ q. between q t) s at h ∙ between-is s (byteAt s at) t at (test-inside quote quote-end s at h) e j
 

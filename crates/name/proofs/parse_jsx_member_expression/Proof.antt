@@ -5,8 +5,9 @@ use native.Mathlib.Omega.{arith}
 use lib.ListN.{length}
 use lib.Seq.{sets}
 use borrow.Author.Needs.{needs}
+use Rattle.rules.specs.Parse.{readAt}
 use Rattle.jsx.specs.Name.{part, member}
-use Rattle.lex.specs.Contract.{readAt, outOf}
+use Rattle.lex.specs.Contract.{outOf}
 use Rattle.lex.proofs.Laws as Lex
 use Rattle.table.specs.Contract.{leafRow}
 use Rattle.name.proofs.Labels
