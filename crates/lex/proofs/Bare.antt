@@ -13,7 +13,7 @@ use Rattle.rules.proofs.Run.{goes, Then, Lies, never, both, then-if, then-any, 
 use Rattle.jsx.specs.Byte.{need}
 use Rattle.jsx.specs.Blank.{commentTurn, comment, lineTurn, lineComment, blank, blanks}
 use Rattle.jsx.specs.Name.{part as namePart}
-use Rattle.lex.specs.Contract.{part}
+use Rattle.lex.specs.Contract.{bytesFrom}
 
 unfoldable pub bare : Rule → Bool
 bare done = true
@@ -81,18 +81,18 @@ module _ (s : List ℕ) (F : ℕ) where
 pub flat-got : (s : List ℕ) (F : ℕ) (t : Rule) (e at : ℕ) {a : Bool} {o : Forest} {p : ℕ} → bare t ≡ true → parse s F t e at ≡ got a o p → Flat o
 flat-got s F t e at h g = subst (λ (x : Answer). Then x FlatTo) g (flat s F t h e at)
 
-direct-lies : (s : List ℕ) (u : Forest) (at : ℕ) → Flat u → Lies s at u → direct u ≡ part s at (width u)
-unfolding direct width part
+direct-lies : (s : List ℕ) (u : Forest) (at : ℕ) → Flat u → Lies s at u → direct u ≡ bytesFrom s at (width u)
+unfolding direct width bytesFrom
 direct-lies s nil at h l = refl
 direct-lies s (byte b u) at h l = λ i. sym (l .0) i ∷ direct-lies s u (at + 1) h (l .1) i
 direct-lies s (group k c u) at h l = absurd h
 
 -- Its bytes are those of the input that it passed.
-pub direct-got : (s : List ℕ) (F : ℕ) (t : Rule) (e at : ℕ) {a : Bool} {o : Forest} {p : ℕ} → bare t ≡ true → parse s F t e at ≡ got a o p → direct o ≡ part s at (p - at)
+pub direct-got : (s : List ℕ) (F : ℕ) (t : Rule) (e at : ℕ) {a : Bool} {o : Forest} {p : ℕ} → bare t ≡ true → parse s F t e at ≡ got a o p → direct o ≡ bytesFrom s at (p - at)
 direct-got s F t e at {o = o} {p} h g =
     let w = wide-got s F t e at g in
     let k : width o ≡ p - at = omega arith in
-    direct-lies s o at (flat-got s F t e at h g) (lies-got s F t e at g) ∙ ap (part s at) k
+    direct-lies s o at (flat-got s F t e at h g) (lies-got s F t e at g) ∙ ap (bytesFrom s at) k
 
 -- ---- a name's part, and blanks
 

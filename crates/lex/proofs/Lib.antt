@@ -1,5 +1,5 @@
 -- What the proofs of several leaves use.
 pub mod Laws
 pub mod Bare
-pub mod Bytes
+pub mod SameBytes
 pub mod Turns

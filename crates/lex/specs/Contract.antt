@@ -7,7 +7,7 @@ use lib.ListN.{length, getD}
 use lib.Dec.{eqb}
 use Rattle.rules.specs.Forest.{Forest, nil}
 use Rattle.rules.specs.Rule.{Rule, step, when, _⇒_∣_}
-use Rattle.rules.specs.Parse.{Answer, got, trouble, pick, readAt}
+use Rattle.rules.specs.Parse.{Answer, got, trouble, readAt}
 use Rattle.jsx.specs.Byte.{need}
 use Rattle.lex.specs.declared.Ans.{Ans}
 use Rattle.lex.specs.declared.Ans.the-variants.{Got, No}
@@ -22,12 +22,9 @@ abbrev pub outOf : Answer → Forest
 outOf (got a o p) = o
 outOf (trouble n a b c d) = nil
 
--- The number that stands for what was read: none; 1 where the rule went on and 0 where it stopped.
+-- The number that stands for what was read, where none is needed.
 abbrev pub nothing : Bool → Forest → ℕ
 nothing a o = 0
-
-abbrev pub goneOn : Bool → Forest → ℕ
-goneOn a o = pick a 1 0
 
 -- A leaf's answer is what the rule t reads at `at`; what it got ends at least k bytes on, and within the input.
 pub record Leaf (w : Bool → Forest → ℕ) (r : Ans) (s : List ℕ) (t : Rule) (at k : ℕ) : Type 0 where
@@ -44,6 +41,6 @@ abbrev pub expectByte : ℕ → Rule
 expectByte c = when (λ b. eqb b c) ⇒ step ∣ need
 
 -- The bytes from a on, n of them.
-unfoldable pub part : List ℕ → (a n : ℕ) → List ℕ
-part s a zero = []
-part s a (suc n) = getD s a 256 ∷ part s (a + 1) n
+unfoldable pub bytesFrom : List ℕ → (a n : ℕ) → List ℕ
+bytesFrom s a zero = []
+bytesFrom s a (suc n) = getD s a 256 ∷ bytesFrom s (a + 1) n

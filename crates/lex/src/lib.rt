@@ -6,11 +6,18 @@ ghost use lib.ListN.{length};
 ghost use Rattle.rules.specs.Parse.{byteAt, opens};
 ghost use Rattle.jsx.specs.Byte.{need};
 ghost use Rattle.jsx.specs.Name.{same};
-ghost use Rattle.lex.specs.Contract.{Leaf, nothing, expectByte, part};
+ghost use Rattle.lex.specs.Contract.{Leaf, nothing, expectByte, bytesFrom};
+use bytes::END;
+use refusal::END_OF_INPUT;
+use refusal::UNEXPECTED;
+
+pub mod bytes;
+pub mod kind;
+pub mod refusal;
 
 // What a reader answers. A refusal is handed up as it is.
 pub enum Ans {
-    // The next place, and one number that stands for what was read.
+    // The next place, and a number that stands for what was read: each function says which.
     Got(usize, usize),
     // A refusal's number and two places, start and end.
     No(u32, usize, usize, usize, usize),
@@ -20,7 +27,7 @@ pub enum Ans {
 pub fn byte(s: &[u8], at: usize) -> u32
     ensures { λ r. ⌜ r ≡ byteAt (now (s .entry)) at ⌝ }
 {
-    if at < s.len() { s[at] as u32 } else { 256 }
+    if at < s.len() { s[at] as u32 } else { END }
 }
 
 // Something is needed here and does not begin here: 4 at the end, 3 elsewhere. (The Rust's `unexpected`.)
@@ -28,14 +35,14 @@ pub fn unexpected(s: &[u8], at: usize) -> Ans
     ensures { λ r. ⌜ Leaf nothing r (now (s .entry)) need at 0 ⌝ }
 {
     let b = byte(s, at);
-    if b == 256 {
-        Ans::No(4, at, at, 0, 0)
+    if b == END {
+        Ans::No(END_OF_INPUT, at, at, 0, 0)
     } else {
-        Ans::No(3, at, at, 0, 0)
+        Ans::No(UNEXPECTED, at, at, 0, 0)
     }
 }
 
-// This byte and no other. (The Rust's `expect`.)
+// This byte and no other; the number is 0. (The Rust's `expect`.)
 pub fn expect(s: &[u8], at: usize, b: u32) -> Ans
     requires { ⌜ (b < 256) × (at ≤ length (now s)) ⌝ }
     ensures { λ r. ⌜ Leaf nothing r (now (s .entry)) (expectByte b) at 1 ⌝ }
@@ -74,7 +81,7 @@ pub fn three_at(s: &[u8], at: usize, a: u32, b: u32, c: u32) -> bool
 // Whether the n bytes from k on in t and from a on in s are the same.
 pub fn same_at(t: &[u8], k: usize, s: &[u8], a: usize, n: usize) -> bool
     requires { ⌜ (k + n < 2 ^ 63) × (a + n ≤ length (now s)) ⌝ }
-    ensures { λ r. ⌜ r ≡ same (part (now (t .entry)) k n) (part (now (s .entry)) a n) ⌝ }
+    ensures { λ r. ⌜ r ≡ same (bytesFrom (now (t .entry)) k n) (bytesFrom (now (s .entry)) a n) ⌝ }
 {
     let mut i = 0;
     while i < n {

@@ -10,7 +10,7 @@ use Rattle.rules.proofs.Run.{goes, calm}
 use Rattle.jsx.specs.Byte.{need}
 use Rattle.jsx.specs.Blank.{blanks}
 use Rattle.jsx.specs.Name.{part, otherPart, dottedPart}
-use Rattle.lex.specs.Contract.{part as bytes}
+use Rattle.lex.specs.Contract.{bytesFrom}
 use Rattle.lex.proofs.Bare.{Flat, flat-got, direct-got, bare-part, bare-blanks}
 
 pub count-flat : (u : Forest) → Flat u → count u ≡ 0
@@ -35,5 +35,5 @@ module _ (s : List ℕ) (F e at : ℕ) where
     pub part-none : count w ≡ 0
     part-none = count-flat w (flat-got s F part e at bare-part h)
 
-    pub part-bytes : direct w ≡ bytes s at (z - at)
+    pub part-bytes : direct w ≡ bytesFrom s at (z - at)
     part-bytes = direct-got s F part e at bare-part h

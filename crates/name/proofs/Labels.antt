@@ -12,7 +12,7 @@ use Rattle.rules.specs.Rule.{Test}
 use Rattle.rules.specs.Parse.{pick, byteAt, readAt}
 use Rattle.rules.proofs.Run.{never}
 use Rattle.jsx.specs.Name.{has, same, firstIs, part, dashed, isThis, opensReference, oneName, objectName}
-use Rattle.lex.specs.Contract.{outOf, Leaf, part as bytes}
+use Rattle.lex.specs.Contract.{outOf, Leaf, bytesFrom}
 use Rattle.lex.specs.declared.Ans.{Ans}
 use Rattle.lex.specs.declared.Ans.the-variants.{Got}
 use Rattle.lex.proofs.Laws.{leaf-number}
@@ -41,8 +41,8 @@ module _ (b : ℕ) where
       go true false e f = refl
       go false y e f = refl
 
-pub first-is : (f : Test) (s : List ℕ) (a n : ℕ) → 0 < n → firstIs f (bytes s a n) ≡ f (byteAt s a)
-unfolding firstIs bytes
+pub first-is : (f : Test) (s : List ℕ) (a n : ℕ) → 0 < n → firstIs f (bytesFrom s a n) ≡ f (byteAt s a)
+unfolding firstIs bytesFrom
 first-is f s a zero h = absurd (omega arith)
 first-is f s a (suc n) h = refl
 

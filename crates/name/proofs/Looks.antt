@@ -14,7 +14,7 @@ use Rattle.jsx.specs.Byte.{is}
 use Rattle.jsx.specs.Blank.{blanks}
 use Rattle.jsx.specs.Name.{part, dashed, onePart, otherPart, namespaced, member, elementName, attributeName}
 use Rattle.jsx.proofs.Again.{onePartOf, otherPartOf, look-got, onePart-again, otherPart-again}
-use Rattle.lex.specs.Contract.{outOf, nothing, Leaf, part as bytes}
+use Rattle.lex.specs.Contract.{outOf, nothing, Leaf, bytesFrom}
 use Rattle.lex.specs.declared.Ans.{Ans}
 use Rattle.lex.specs.declared.Ans.the-variants.{Got}
 use Rattle.lex.proofs.Laws.{leaf-got, leaf-number}
@@ -35,10 +35,10 @@ first-part l g l₂ g₂ =
 
 module _ {s : List ℕ} {at e d q : ℕ} (f : FirstPart s at e d q) where
   -- The part's bytes are the input's.
-  pub first-bytes : direct (outOf (readAt s part at)) ≡ bytes s at (e - at)
+  pub first-bytes : direct (outOf (readAt s part at)) ≡ bytesFrom s at (e - at)
   first-bytes = part-bytes s (suc (length s)) 0 at (f .read)
 
-  pub first-dashed : d ≡ dashed (bytes s at (e - at))
+  pub first-dashed : d ≡ dashed (bytesFrom s at (e - at))
   first-dashed = f .is-dashed ∙ ap dashed first-bytes
 
   -- One record, of a one-part name: it ends where the part does.

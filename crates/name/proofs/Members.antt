@@ -16,7 +16,7 @@ use Rattle.jsx.specs.Byte.{is}
 use Rattle.jsx.specs.Blank.{blanks}
 use Rattle.jsx.specs.Name.{has, part, dashed, objectName, dottedPart, dotted, member}
 use Rattle.jsx.proofs.Again.{nodeAround, otherPartOf, objectOf, member-again}
-use Rattle.lex.specs.Contract.{outOf, nothing, Leaf, part as bytes}
+use Rattle.lex.specs.Contract.{outOf, nothing, Leaf, bytesFrom}
 use Rattle.lex.specs.declared.Ans.{Ans}
 use Rattle.lex.specs.declared.Ans.the-variants.{Got, No}
 use Rattle.lex.proofs.Laws.{before-end, leaf-no, leaf-got}
@@ -49,11 +49,11 @@ pub record AtDot (s : List ℕ) (at e n : ℕ) (t₀ : List ℕ) (w : Forest) (t
   pub ordered : z ≤ p
 
 -- One part was read, and its row stored.
-abbrev pub parts-begin : {s : List ℕ} {at e d q : ℕ} (n k : ℕ) (t₀ : List ℕ) {t : List ℕ} → FirstPart s at e d q → objectName (bytes s at (e - at)) ≡ node k (dashed (bytes s at (e - at)))
+abbrev pub parts-begin : {s : List ℕ} {at e d q : ℕ} (n k : ℕ) (t₀ : List ℕ) {t : List ℕ} → FirstPart s at e d q → objectName (bytesFrom s at (e - at)) ≡ node k (dashed (bytesFrom s at (e - at)))
     → t ≡ sets t₀ 6 (leafRow (n + 1) n k at e d) → Parts s at e n t₀ (outOf (readAt s part at)) t e 1
 parts-begin {s} {at} {e} {d} n k t₀ f hk g =
     let w = outOf (readAt s part at) in
-    let b : direct w ≡ bytes s at (e - at) = part-bytes s (suc (length s)) 0 at (f .read) in
+    let b : direct w ≡ bytesFrom s at (e - at) = part-bytes s (suc (length s)) 0 at (f .read) in
     let l : objectName (direct w) ≡ node k d = ap objectName b ∙ hk ∙ ap (λ (x : List ℕ). node k (dashed x)) (sym b) ∙ ap (node k) (sym (f .is-dashed)) in
     let o : objectOf w ≡ objectOf w ⋈ nil = sym (behind-nil (objectOf w)) in
     let i = f .ordered in

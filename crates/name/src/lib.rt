@@ -5,7 +5,7 @@ ghost use lib.ListN.{length};
 ghost use Rattle.rules.specs.Forest.{node};
 ghost use Rattle.rules.specs.Parse.{byteAt};
 ghost use Rattle.jsx.specs.Name.{dashed, isThis, opensReference, oneName, objectName, elementName, attributeName, namespaced, dottedPart, member};
-ghost use Rattle.lex.specs.Contract.{Leaf, nothing, part};
+ghost use Rattle.lex.specs.Contract.{Leaf, nothing, bytesFrom};
 ghost use Rattle.name.specs.Contract.{Room, Made, FirstPart};
 use lex::Ans;
 
@@ -39,7 +39,7 @@ const ROW_WORDS: usize = table::ROW_WORDS;
 // Whether the bytes from a to b are `this`.
 fn is_this(s: &[u8], a: usize, b: usize) -> bool
     requires { ⌜ (a ≤ b) × (b ≤ length (now s)) ⌝ }
-    ensures { λ r. ⌜ r ≡ isThis (part (now (s .entry)) a (b - a)) ⌝ }
+    ensures { λ r. ⌜ r ≡ isThis (bytesFrom (now (s .entry)) a (b - a)) ⌝ }
 {
     if b - a != 4 {
         return false;
@@ -63,8 +63,8 @@ fn opens_reference(b: u32) -> bool
 
 // The kind of a one-part name from a to b: identifier, reference or This.
 fn name_kind(s: &[u8], a: usize, b: usize, dash: usize) -> usize
-    requires { ⌜ (a < b) × (b ≤ length (now s)) × (dash ≡ dashed (part (now s) a (b - a))) ⌝ }
-    ensures { λ r. ⌜ oneName (part (now (s .entry)) a (b - a)) ≡ node r dash ⌝ }
+    requires { ⌜ (a < b) × (b ≤ length (now s)) × (dash ≡ dashed (bytesFrom (now s) a (b - a))) ⌝ }
+    ensures { λ r. ⌜ oneName (bytesFrom (now (s .entry)) a (b - a)) ≡ node r dash ⌝ }
 {
     if dash == 1 {
         return IDENTIFIER;
@@ -78,7 +78,7 @@ fn name_kind(s: &[u8], a: usize, b: usize, dash: usize) -> usize
 // The kind of a member's object from a to b: This or reference.
 fn object_kind(s: &[u8], a: usize, b: usize) -> usize
     requires { ⌜ (a ≤ b) × (b ≤ length (now s)) ⌝ }
-    ensures { λ r. ⌜ objectName (part (now (s .entry)) a (b - a)) ≡ node r (dashed (part (now (s .entry)) a (b - a))) ⌝ }
+    ensures { λ r. ⌜ objectName (bytesFrom (now (s .entry)) a (b - a)) ≡ node r (dashed (bytesFrom (now (s .entry)) a (b - a))) ⌝ }
 {
     if is_this(s, a, b) { THIS } else { REFERENCE }
 }

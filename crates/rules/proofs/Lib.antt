@@ -5,6 +5,7 @@ pub mod Got
 pub mod Mark
 pub mod Local
 pub mod Ends
+pub mod Turns
 pub mod Credit
 pub mod Agree
 pub mod Moves

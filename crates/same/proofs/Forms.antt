@@ -18,7 +18,7 @@ use Rattle.jsx.specs.Blank.{blanks}
 use Rattle.jsx.specs.Name.{has, firstIs, dashed, isThis, opensReference, oneName, part as namePart, otherPart, objectName, dotted, elementName}
 use Rattle.jsx.specs.Closing.{nodesOf, severalParts, partsOf, allSame, sameName}
 use Rattle.jsx.proofs.Again.{nodeAround, onePartOf, otherPartOf, objectOf, elementName-once}
-use Rattle.lex.specs.Contract.{outOf, part, Past}
+use Rattle.lex.specs.Contract.{outOf, bytesFrom, Past}
 use Rattle.same.specs.Contract.{Reads, Named, sameNames, Dotted, partsFrom}
 use Rattle.lex.proofs.Bare.{flat-got, direct-got, bare-part, bare-blanks}
 use Rattle.same.proofs.Nodes.{nodes-flat}
@@ -29,7 +29,7 @@ abbrev pub nameAt : List ℕ → ℕ → Forest
 nameAt s a = outOf (readAt s elementName a)
 
 abbrev pub bytesTo : List ℕ → (a e : ℕ) → List ℕ
-bytesTo s a e = part s a (e - a)
+bytesTo s a e = bytesFrom s a (e - a)
 
 -- ---- kinds
 

@@ -24,7 +24,7 @@ use Rattle.jsx.specs.Blank.{blanks}
 use Rattle.jsx.specs.Name.{has, dashed, part as namePart, otherPart, dottedPart, dotted}
 use Rattle.jsx.specs.Closing.{nodesOf}
 use Rattle.jsx.proofs.Again.{otherPartOf, dotted-once}
-use Rattle.lex.specs.Contract.{outOf, part, Leaf, Past}
+use Rattle.lex.specs.Contract.{outOf, bytesFrom, Leaf, Past}
 use Rattle.lex.specs.declared.Ans.{Ans}
 use Rattle.lex.specs.declared.Ans.the-variants.{Got, No}
 use Rattle.lex.proofs.Laws as Lex
@@ -104,7 +104,7 @@ module _ (s : List ℕ) where
   -- ---- parts
 
   -- A part in a group of its own.
-  nodes-other : (at : ℕ) {p : ℕ} {w : Forest} → readAt s namePart at ≡ got true w p → nodesOf (otherPartOf w) ≡ part s at (p - at) ∷ []
+  nodes-other : (at : ℕ) {p : ℕ} {w : Forest} → readAt s namePart at ≡ got true w p → nodesOf (otherPartOf w) ≡ bytesFrom s at (p - at) ∷ []
   unfolding nodesOf
   nodes-other at h = ap (λ (l : List ℕ). l ∷ []) (direct-got s (suc (length s)) namePart 0 at bare-part h)
 
@@ -112,7 +112,7 @@ module _ (s : List ℕ) where
   pub record OnePart (at p : ℕ) (u : Forest) : Type 0 where
     pub w : Forest
     pub read : readAt s namePart at ≡ got true w p
-    pub nodes : nodesOf u ≡ part s at (p - at) ∷ []
+    pub nodes : nodesOf u ≡ bytesFrom s at (p - at) ∷ []
 
   pub other-read : (e at : ℕ) {u : Forest} {p : ℕ} → parsed s otherPart e at ≡ got true u p → OnePart at p u
   unfolding otherPart
@@ -146,7 +146,7 @@ module _ (s : List ℕ) where
     pub read : readAt s namePart i ≡ got true w e
     pub u : Forest
     pub rest : readAt s (many dotted) e ≡ got true u b
-    pub parts : partsFrom s x ≡ part s i (e - i) ∷ nodesOf u
+    pub parts : partsFrom s x ≡ bytesFrom s i (e - i) ∷ nodesOf u
 
   pub dots-read : {x b : ℕ} → Dotted s x b → Part x b
   unfolding dots

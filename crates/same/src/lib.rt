@@ -6,7 +6,7 @@ ghost use Rattle.rules.specs.Parse.{readAt};
 ghost use Rattle.jsx.specs.Blank.{blanks};
 ghost use Rattle.jsx.specs.Name.{same, elementName, part as namePart};
 ghost use Rattle.jsx.specs.Closing.{allSame};
-ghost use Rattle.lex.specs.Contract.{outOf, part, Past};
+ghost use Rattle.lex.specs.Contract.{outOf, bytesFrom, Past};
 ghost use Rattle.same.specs.Contract.{Reads, Named, sameNames, Dotted, partsFrom};
 use lex::Ans;
 
@@ -15,7 +15,7 @@ const COLON: u32 = b':' as u32;
 // Whether the bytes from a to b and from c to e are the same.
 pub fn same_bytes(s: &[u8], a: usize, b: usize, c: usize, e: usize) -> bool
     requires { ⌜ (a ≤ b) × (b ≤ length (now s)) × (c ≤ e) × (e ≤ length (now s)) ⌝ }
-    ensures { λ r. ⌜ r ≡ same (part (now (s .entry)) a (b - a)) (part (now (s .entry)) c (e - c)) ⌝ }
+    ensures { λ r. ⌜ r ≡ same (bytesFrom (now (s .entry)) a (b - a)) (bytesFrom (now (s .entry)) c (e - c)) ⌝ }
 {
     let n = b - a;
     if n != e - c {

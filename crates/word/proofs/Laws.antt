@@ -19,7 +19,7 @@ use Rattle.jsx.specs.Byte.{is, _or_, end, lineEnd, letter, digit, quote, need}
 use Rattle.jsx.specs.Name.{opensName, inWord, inName, has, dashed}
 use Rattle.jsx.specs.Text.{inText, text, quoted, quotedBy, quotedTurn}
 use Rattle.jsx.specs.Word.{word, refusedWord, primaryWord, digits, whole, fraction, number}
-use Rattle.lex.specs.Contract.{view, nothing, Leaf, part}
+use Rattle.lex.specs.Contract.{view, nothing, Leaf, bytesFrom}
 use Rattle.lex.specs.declared.Ans.{Ans}
 use Rattle.lex.specs.declared.Ans.the-variants.{Got, No}
 use Rattle.lex.proofs.Bare.{bare, direct-got}
@@ -308,14 +308,14 @@ number-ends s at p u v {b} {r} e f h i = go (inWord (byteAt s p)) (e ∙ ap (λ 
 -- ---- a name as a primary
 
 module _ (s : List ℕ) (at : ℕ) {o : Forest} {p : ℕ} (w : readAt s word at ≡ got true o p) where
-  said-part : direct o ≡ part s at (p - at)
+  said-part : direct o ≡ bytesFrom s at (p - at)
   unfolding bare word need
   said-part = direct-got s (suc (length s)) word 0 at refl w
 
-  pub primary-bad : refusedWord (part s at (p - at)) ≡ true → readAt s primaryWord at ≡ trouble 3 at at 0 0
+  pub primary-bad : refusedWord (bytesFrom s at (p - at)) ≡ true → readAt s primaryWord at ≡ trouble 3 at at 0 0
   unfolding parse primaryWord
   primary-bad h = rw (any-mark s (suc (length s)) word 0 at at w, said-part, h)
 
-  pub primary-is : refusedWord (part s at (p - at)) ≡ false → readAt s primaryWord at ≡ got true (o ⋈ nil) p
+  pub primary-is : refusedWord (bytesFrom s at (p - at)) ≡ false → readAt s primaryWord at ≡ got true (o ⋈ nil) p
   unfolding parse primaryWord
   primary-is h = rw (any-mark s (suc (length s)) word 0 at at w, said-part, h)

@@ -12,18 +12,18 @@ use Rattle.rules.specs.Parse.{pick}
 use Rattle.rules.proofs.Run.{never, both}
 use Rattle.jsx.specs.Name.{same}
 use Rattle.jsx.specs.Word.{onFirst, cut, words, among, reserved, spared, strict, refusedWord}
-use Rattle.lex.proofs.Bytes.{length-part}
-use Rattle.lex.specs.Contract.{part}
+use Rattle.lex.proofs.SameBytes.{length-part}
+use Rattle.lex.specs.Contract.{bytesFrom}
 use Rattle.word.specs.Table.{cells, each, upTo, row, known, sound, complete, good}
 
 -- ---- a word among some of its length
 
 module _ (t w : List ℕ) {E : Bool} (p n c i : ℕ) (e : E ≡ among (cells t p n (c - i)) w) where
-  pub among-more : i < c → same (part t p n) w ≡ false → E ≡ among (cells t (p + n + 1) n (c - (i + 1))) w
+  pub among-more : i < c → same (bytesFrom t p n) w ≡ false → E ≡ among (cells t (p + n + 1) n (c - (i + 1))) w
   unfolding among cells
   among-more h f = let j : c - i ≡ suc (c - (i + 1)) = omega arith in simp (j, f) at e
 
-  pub among-found : i < c → same (part t p n) w ≡ true → E ≡ true
+  pub among-found : i < c → same (bytesFrom t p n) w ≡ true → E ≡ true
   unfolding among cells
   among-found h f = let j : c - i ≡ suc (c - (i + 1)) = omega arith in simp (j, f) at e
 
@@ -82,12 +82,12 @@ strict-short : each short strict ≡ true
 unfolding each short strict words cut onFirst
 strict-short = refl
 
-pub refused-long : (s : List ℕ) (a n : ℕ) → 10 < n → false ≡ refusedWord (part s a n)
+pub refused-long : (s : List ℕ) (a n : ℕ) → 10 < n → false ≡ refusedWord (bytesFrom s a n)
 unfolding short
-refused-long s a n h = sym (free (part s a n) (λ e d. no-word (each-at short reserved (part s a n) reserved-short e)) (λ e d. no-word (each-at short strict (part s a n) strict-short e)))
+refused-long s a n h = sym (free (bytesFrom s a n) (λ e d. no-word (each-at short reserved (bytesFrom s a n) reserved-short e)) (λ e d. no-word (each-at short strict (bytesFrom s a n) strict-short e)))
   where
-    no-word : leb (length (part s a n)) 10 ≡ true → ⊥
-    no-word e = let k = leb-true (length (part s a n)) 10 e in omega (arith, length-part s a n)
+    no-word : leb (length (bytesFrom s a n)) 10 ≡ true → ⊥
+    no-word e = let k = leb-true (length (bytesFrom s a n)) 10 e in omega (arith, length-part s a n)
 
 -- ---- a good table
 
@@ -118,9 +118,9 @@ module _ (t f c : List ℕ) (h : good t f c ≡ true) where
       go true e = each-at refusedWord (row t f c (length w)) w (good-rows (length w) i) e
       go false e = free w (λ y d. not-known e (each-at (known t f c) reserved w (good-known .0) y) d) (λ y d. not-known e (each-at (known t f c) strict w (good-known .1) y) d)
 
-  pub refused-start : (s : List ℕ) (a n : ℕ) → n ≤ 10 → refusedWord (part s a n) ≡ among (cells t (getD f n 0) n (getD c n 0 - 0)) (part s a n)
+  pub refused-start : (s : List ℕ) (a n : ℕ) → n ≤ 10 → refusedWord (bytesFrom s a n) ≡ among (cells t (getD f n 0) n (getD c n 0 - 0)) (bytesFrom s a n)
   unfolding row
   refused-start s a n i =
       let l = length-part s a n in
       let z : getD c n 0 ≡ getD c n 0 - 0 = omega arith in
-      refused-row (part s a n) (omega arith) ∙ ap (λ (m : ℕ). among (row t f c m) (part s a n)) l ∙ ap (λ (x : ℕ). among (cells t (getD f n 0) n x) (part s a n)) z
+      refused-row (bytesFrom s a n) (omega arith) ∙ ap (λ (m : ℕ). among (row t f c m) (bytesFrom s a n)) l ∙ ap (λ (x : ℕ). among (cells t (getD f n 0) n x) (bytesFrom s a n)) z

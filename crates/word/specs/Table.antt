@@ -6,12 +6,12 @@ use lib.ListN.{length, getD}
 use lib.Dec.{eqb}
 use Rattle.rules.specs.Parse.{pick}
 use Rattle.jsx.specs.Word.{among, reserved, spared, strict, refusedWord}
-use Rattle.lex.specs.Contract.{part}
+use Rattle.lex.specs.Contract.{bytesFrom}
 
 -- Words of n bytes from k on, each with one byte behind it; how many.
 unfoldable pub cells : List ℕ → (k n count : ℕ) → List (List ℕ)
 cells t k n zero = []
-cells t k n (suc c) = part t k n ∷ cells t (k + n + 1) n c
+cells t k n (suc c) = bytesFrom t k n ∷ cells t (k + n + 1) n c
 
 -- Whether every word of a list passes a test, and every number below a bound.
 unfoldable pub each : (List ℕ → Bool) → List (List ℕ) → Bool

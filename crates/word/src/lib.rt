@@ -8,7 +8,7 @@ ghost use Rattle.jsx.specs.Byte.{is, _‥_, _or_, lineEnd, letter, digit, quote
 ghost use Rattle.jsx.specs.Name.{opensName, inWord, inName, same, part as namePart};
 ghost use Rattle.jsx.specs.Text.{inText, text, quoted};
 ghost use Rattle.jsx.specs.Word.{word, refusedWord, primaryWord, digits, whole, number, string};
-ghost use Rattle.lex.specs.Contract.{Leaf, Past, nothing, part};
+ghost use Rattle.lex.specs.Contract.{Leaf, Past, nothing, bytesFrom};
 ghost use Rattle.lex.specs.declared.Ans.the-variants.{Got, No};
 ghost use Rattle.word.specs.Leaf.{dashes, run};
 ghost use Rattle.word.specs.Table.{good};
@@ -306,7 +306,7 @@ const COUNT: [u8; 11] = [0, 0, 3, 5, 5, 9, 8, 5, 3, 2, 2];
 // Whether the n bytes from a on in s are a refused word, by a good table.
 fn is_in_table(words: &[u8], first: &[u8], count: &[u8], s: &[u8], a: usize, n: usize) -> bool
     requires { ⌜ (good (now words) (now first) (now count) ≡ true) × (n ≤ 10) × (a + n ≤ length (now s)) ⌝ }
-    ensures { λ r. ⌜ r ≡ refusedWord (part (now (s .entry)) a n) ⌝ }
+    ensures { λ r. ⌜ r ≡ refusedWord (bytesFrom (now (s .entry)) a n) ⌝ }
 {
     let all = count[n] as usize;
     let mut p = first[n] as usize;
@@ -324,7 +324,7 @@ fn is_in_table(words: &[u8], first: &[u8], count: &[u8], s: &[u8], a: usize, n: 
 // Whether the bytes from a to b are a refused word.
 pub fn is_refused_word(s: &[u8], a: usize, b: usize) -> bool
     requires { ⌜ (a ≤ b) × (b ≤ length (now s)) ⌝ }
-    ensures { λ r. ⌜ r ≡ refusedWord (part (now (s .entry)) a (b - a)) ⌝ }
+    ensures { λ r. ⌜ r ≡ refusedWord (bytesFrom (now (s .entry)) a (b - a)) ⌝ }
 {
     let n = b - a;
     if 10 < n {

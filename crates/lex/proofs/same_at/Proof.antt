@@ -2,7 +2,7 @@ use mathlib.Core.Path.{_≡_, sym, _∙_}
 use Prim.Native.Nat.{_+_, _-_, _≤_}
 use native.Mathlib.Omega.{arith}
 use borrow.Author.Needs.{needs}
-use Rattle.lex.proofs.Bytes
+use Rattle.lex.proofs.SameBytes as Bytes
 use Rattle.lex.proofs.same_at.Statement.{statement}
 use Rattle.lex.proofs.same_at.Tie as tie
 

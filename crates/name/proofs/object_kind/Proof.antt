@@ -1,6 +1,6 @@
 use mathlib.Core.Path.{sym, _∙_}
 use Prim.Native.Nat.{_-_}
-use Rattle.lex.specs.Contract.{part}
+use Rattle.lex.specs.Contract.{bytesFrom}
 use Rattle.name.proofs.Labels
 use borrow.Author.Needs.{needs}
 use Rattle.name.proofs.object_kind.Statement.{statement}
@@ -14,14 +14,14 @@ returns c =
     let args = c .before .before .before .args in
     let is-this = c .before .is-this in
     let if1 = c .if1 in
-    Labels.object-this (part (args .s .now) (args .a) (args .b - args .a)) (sym (is-this .ensures) ∙ if1 .taken)
+    Labels.object-this (bytesFrom (args .s .now) (args .a) (args .b - args .a)) (sym (is-this .ensures) ∙ if1 .taken)
 
 returns-2 : tie.Need-returns-2
 returns-2 c =
     let args = c .before .before .before .args in
     let is-this = c .before .is-this in
     let if1 = c .if1 in
-    Labels.object-other (part (args .s .now) (args .a) (args .b - args .a)) (sym (is-this .ensures) ∙ if1 .left)
+    Labels.object-other (bytesFrom (args .s .now) (args .a) (args .b - args .a)) (sym (is-this .ensures) ∙ if1 .left)
 
 pub object-kind-spec : {M : Type 1} → statement M
 object-kind-spec = tie.close (tie.spec is-this-requires returns returns-2)

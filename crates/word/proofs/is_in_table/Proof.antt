@@ -3,14 +3,14 @@ use Prim.Native.Nat.{_*_, _<_, _+_, _-_, _≤_}
 use native.Mathlib.Omega.{arith}
 use borrow.Author.Needs.{needs}
 use Rattle.jsx.specs.Word.{among, refusedWord}
-use Rattle.lex.specs.Contract.{part}
+use Rattle.lex.specs.Contract.{bytesFrom}
 use Rattle.word.specs.Table.{cells}
 use Rattle.word.proofs.Words
 use Rattle.word.proofs.is_in_table.Statement.{statement}
 use Rattle.word.proofs.is_in_table.Tie as tie
 
 abbrev Inv-loop : tie.InvT-loop
-Inv-loop words first count s a n all p₀ i₀ p i = (all < 256) × (i ≤ all) × (p < 256 + 11 * i) × (refusedWord (part s a n) ≡ among (cells words p n (all - i)) (part s a n))
+Inv-loop words first count s a n all p₀ i₀ p i = (all < 256) × (i ≤ all) × (p < 256 + 11 * i) × (refusedWord (bytesFrom s a n) ≡ among (cells words p n (all - i)) (bytesFrom s a n))
 
 abbrev μ-loop : tie.MeasureT-loop
 μ-loop words first count s a n all p₀ i₀ p i = all - i

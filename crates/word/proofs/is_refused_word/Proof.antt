@@ -4,7 +4,7 @@ use native.Mathlib.Omega.{arith}
 use borrow.Author.Needs.{needs}
 use Rattle.jsx.specs.Word.{onFirst, cut, words, among, reserved, spared, strict, refusedWord}
 use Rattle.jsx.specs.Name.{same}
-use Rattle.lex.specs.Contract.{part}
+use Rattle.lex.specs.Contract.{bytesFrom}
 use Rattle.word.specs.Table.{good, sound, complete, row, known, each, upTo, cells}
 use Rattle.word.proofs.Words
 use Rattle.word.proofs.is_refused_word.Statement.{statement}
@@ -29,7 +29,7 @@ slice-aggregate-is-in-table-3 : tie.Need-slice-aggregate-is-in-table-3
 slice-aggregate-is-in-table-3 c = search needs
 
 is-in-table-requires : tie.Need-is-in-table-requires
-unfolding good sound complete row known each upTo cells part same cut onFirst words among reserved spared strict refusedWord
+unfolding good sound complete row known each upTo cells bytesFrom same cut onFirst words among reserved spared strict refusedWord
 is-in-table-requires c κs = (refl, omega arith, omega arith)
 
 returns-2 : tie.Need-returns-2

@@ -9,10 +9,10 @@ use lib.Dec.{eqb}
 use borrow.Author.Tests.{eq-eqb, ne-eqb}
 use Rattle.rules.specs.Parse.{pick, byteAt}
 use Rattle.jsx.specs.Name.{same}
-use Rattle.lex.specs.Contract.{part}
+use Rattle.lex.specs.Contract.{bytesFrom}
 
-pub length-part : (s : List ℕ) (a n : ℕ) → length (part s a n) ≡ n
-unfolding part
+pub length-part : (s : List ℕ) (a n : ℕ) → length (bytesFrom s a n) ≡ n
+unfolding bytesFrom
 length-part s a zero = refl
 length-part s a (suc n) = ap suc (length-part s (a + 1) n)
 
@@ -30,7 +30,7 @@ same-lengths (a ∷ u) (b ∷ v) h = false-or (eqb a b) (same u v) (same-lengths
 
 -- n bytes from k on in t, and from a on in s.
 abbrev pub sameFrom : (t s : List ℕ) (n k a : ℕ) → Bool
-sameFrom t s n k a = same (part t k n) (part s a n)
+sameFrom t s n k a = same (bytesFrom t k n) (bytesFrom s a n)
 
 pub same-start : (t s : List ℕ) (n k a : ℕ) → sameFrom t s n k a ≡ sameFrom t s (n - 0) (k + 0) (a + 0)
 same-start t s n k a =
@@ -41,7 +41,7 @@ same-start t s n k a =
 
 module _ (t s : List ℕ) {E : Bool} (n k a i : ℕ) where
   pub same-more : i < n → byteAt t (k + i) ≡ byteAt s (a + i) → E ≡ sameFrom t s (n - i) (k + i) (a + i) → E ≡ sameFrom t s (n - (i + 1)) (k + (i + 1)) (a + (i + 1))
-  unfolding same part
+  unfolding same bytesFrom
   same-more h e f =
       let j : n - i ≡ suc (n - (i + 1)) = omega arith in
       let jk : k + (i + 1) ≡ k + i + 1 = omega arith in
@@ -49,11 +49,11 @@ module _ (t s : List ℕ) {E : Bool} (n k a i : ℕ) where
       rw (jk, ja) (simp (j, eq-eqb _ _ e) at f)
 
   pub same-differ : i < n → (byteAt t (k + i) ≡ byteAt s (a + i) → ⊥) → E ≡ sameFrom t s (n - i) (k + i) (a + i) → E ≡ false
-  unfolding same part
+  unfolding same bytesFrom
   same-differ h e f =
       let j : n - i ≡ suc (n - (i + 1)) = omega arith in
       simp (j, ne-eqb _ _ e) at f
 
   pub same-end : n ≤ i → E ≡ sameFrom t s (n - i) (k + i) (a + i) → E ≡ true
-  unfolding same part
+  unfolding same bytesFrom
   same-end h f = let j : n - i ≡ 0 = omega arith in simp j at f
