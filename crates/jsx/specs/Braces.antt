@@ -1,6 +1,7 @@
 -- What stands in braces. Chapters 'Markup' and 'The table'.
 use Prim.Native.Nat.{ℕ}
-use Rattle.rules.specs.Rule.{Rule, step, refuse, when, starts, after, marked, here, fromMark, thisByte, nodeOf, _⨾_, _⇒_∣_}
+use Rattle.rules.specs.Rule.{Rule, step, refuse, when, starts, after, marked, here, fromMark, thisByte, nodeOf, _⨾_}
+use Rattle.rules.specs.Rule.{_⇒_∣_}
 use Rattle.jsx.specs.Refusal.{unexpected, emptyValue, commaInBraces}
 use Rattle.jsx.specs.Kind as Kind
 use Rattle.jsx.specs.Byte.{bytesOf, is, need, expect}

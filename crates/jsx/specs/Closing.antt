@@ -45,11 +45,13 @@ allSame [] (w ∷ ws) = false
 allSame (v ∷ vs) [] = false
 allSame (v ∷ vs) (w ∷ ws) = pick (same v w) (allSame vs ws) false
 
--- D: "Closing names are equal part for part, with the same form; blanks don't count." (One-part names of the same bytes are of the same kind.)
+-- D: "Closing names are equal part for part, with the same form; blanks don't count." (One-part names of the same
+-- bytes are of the same kind.)
 unfoldable pub sameName : (kind : ℕ) → Forest → (kind₂ : ℕ) → Forest → Bool
 sameName k c l d = pick (eqb k l) (allSame (partsOf k c) (partsOf l d)) false
 
--- opening, closing: the widths of the tags. D: 7 "opening name; closing name"; 8 "opening fragment; closing name"; 9 "opening name; closing fragment".
+-- opening, closing: the widths of the tags. D: 7 "opening name; closing name"; 8 "opening fragment; closing name"; 9
+-- "opening name; closing fragment".
 unfoldable pub compared : (opening closing : ℕ) → TagName → TagName → Verdict
 compared opening closing noName noName = fine
 compared opening closing noName (named q l d) = differ fragmentClosedByName 0 opening q (q + width d)

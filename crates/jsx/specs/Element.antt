@@ -11,7 +11,8 @@ use Rattle.jsx.specs.Expression.{Inner}
 use Rattle.jsx.specs.Tag.{openTag, openFragment, closeTag}
 use Rattle.jsx.specs.Closing.{verdict}
 
--- D: "Children: text .., elements, fragments, `{expression}`, `{}` .., `{...expression}`." They end at the end, and at a `<` that a `/` follows.
+-- D: "Children: text .., elements, fragments, `{expression}`, `{}` .., `{...expression}`." They end at the end, and
+-- at a `<` that a `/` follows.
 -- D: "`>` or `}` in child text" is 6 at "its offset".
 unfoldable pub child : Inner → Rule
 child n =

@@ -1,6 +1,7 @@
 -- Expressions. Chapter 'Inside braces'. The levels are document 01's, each over what may be entered one level deeper.
 use Prim.Native.Nat.{ℕ}
-use Rattle.rules.specs.Rule.{Test, Rule, done, stop, step, refuse, when, starts, after, many, here, thisByte, nodeOf, _⨾_, _⇒_∣_}
+use Rattle.rules.specs.Rule.{Test, Rule, done, stop, step, refuse, when, starts, after, many, here, thisByte, nodeOf}
+use Rattle.rules.specs.Rule.{_⨾_, _⇒_∣_}
 use Rattle.jsx.specs.Refusal.{unexpected, adjacent}
 use Rattle.jsx.specs.Kind as Kind
 use Rattle.jsx.specs.Byte.{bytesOf, is, digit, quote, need, expect, _or_}
@@ -8,8 +9,8 @@ use Rattle.jsx.specs.Blank.{blanks, pass}
 use Rattle.jsx.specs.Name.{opensName}
 use Rattle.jsx.specs.Word.{word, primaryWord, number, string}
 
--- What counts a level of depth. D: "an element, fragment, brace pair, parenthesis, bracket, call, prefix operator (to the end of its
--- operand) and conditional (from its `?` to its end) each count one".
+-- What counts a level of depth. D: "an element, fragment, brace pair, parenthesis, bracket, call, prefix operator (to
+-- the end of its operand) and conditional (from its `?` to its end) each count one".
 pub record Inner : Type 0 where
   pub element : Rule
   pub childBraces : Rule
@@ -21,8 +22,8 @@ pub record Inner : Type 0 where
   pub prefix : Rule
   pub choice : Rule
 
--- Behind an element that isn't a child. D: "`<` not followed by `<` or `=`" is 12 at "that byte: p, p + 1"; before those two it is the
--- number n that anything else gets here.
+-- Behind an element that isn't a child. D: "`<` not followed by `<` or `=`" is 12 at "that byte: p, p + 1"; before
+-- those two it is the number n that anything else gets here.
 unfoldable pub sibling : ℕ → Rule
 sibling n =
     starts (bytesOf "<<") ⇒ refuse n here
@@ -54,7 +55,8 @@ postfixTurn n =
 unfoldable pub postfix : Inner → Rule
 postfix n = primary n ⨾ many (postfixTurn n)
 
--- D: "Unary: `!` or `-` before a unary, or an element, a fragment or a postfix." D: "`++`, `--`, .. : refusal 3 at the first byte".
+-- D: "Unary: `!` or `-` before a unary, or an element, a fragment or a postfix." D: "`++`, `--`, .. : refusal 3 at
+-- the first byte".
 unfoldable pub unary : Inner → Rule
 unary n =
     when (is "!") ⇒ n .prefix

@@ -16,4 +16,6 @@ pub mod Depth
 pub mod Reading
 pub mod Table
 pub mod Program
+-- Demand 3.
 pub mod Compose
+pub mod Demand3

@@ -5,7 +5,8 @@ use mathlib.Core.Bool.{Bool, true, false}
 use mathlib.Core.List.{List, [], _∷_}
 use lib.Dec.{eqb}
 use Rattle.rules.specs.Forest.{Label, node, direct, inside}
-use Rattle.rules.specs.Rule.{Test, Rule, done, stop, step, refuse, when, after, many, wrap, said, marked, fromMark, nodeOf, _⨾_, _⇒_∣_}
+use Rattle.rules.specs.Rule.{Test, Rule, done, stop, step, refuse, when, after, many, wrap, said, marked, fromMark}
+use Rattle.rules.specs.Rule.{nodeOf, _⨾_, _⇒_∣_}
 use Rattle.rules.specs.Parse.{pick}
 use Rattle.jsx.specs.Refusal.{dashAfterDot}
 use Rattle.jsx.specs.Kind as Kind
@@ -47,7 +48,8 @@ dashed w = pick (has "-" w) 1 0
 unfoldable pub isThis : List ℕ → Bool
 isThis w = same w (bytesOf "this")
 
--- D: "One-part names: with no dash and a first byte A-Z, `_` or `$`, a reference; else `this`, exactly, is This; else an identifier."
+-- D: "One-part names: with no dash and a first byte A-Z, `_` or `$`, a reference; else `this`, exactly, is This; else
+-- an identifier."
 unfoldable pub opensReference : Test
 opensReference = (code "A" ‥ code "Z") or is "_" or is "$"
 

@@ -8,7 +8,7 @@ use Rattle.rules.specs.Parse.{pick}
 use Rattle.rules.specs.Record.{rowWords}
 use Rattle.jsx.specs.Byte.{bytesOf}
 use Rattle.jsx.specs.Reading.{Limits, stage}
-use Rattle.jsx.specs.Table.{Outcome, missing, read, word}
+use Rattle.jsx.specs.Table.{Outcome, missing, read, tableWord}
 
 -- A number in decimal, of as many digits as are needed and at most that many.
 unfoldable pub decimalUpTo : (digits : ℕ) → ℕ → List ℕ
@@ -29,7 +29,14 @@ parentField n = pick (eqb n missing) (bytesOf " -") (field n)
 -- D: "0 1 0 9 - 6 1": the record's number, then its words.
 unfoldable pub rowLine : List ℕ → (number : ℕ) → List ℕ
 rowLine t k =
-    decimal k ++ field (word t k 0) ++ field (word t k 1) ++ field (word t k 2) ++ parentField (word t k 3) ++ field (word t k 4) ++ field (word t k 5) ++ bytesOf "\n"
+    decimal k
+    ++ field (tableWord t k 0)
+    ++ field (tableWord t k 1)
+    ++ field (tableWord t k 2)
+    ++ parentField (tableWord t k 3)
+    ++ field (tableWord t k 4)
+    ++ field (tableWord t k 5)
+    ++ bytesOf "\n"
 
 -- The rows of `left` records from number k on.
 unfoldable pub rowLines : List ℕ → (left k : ℕ) → List ℕ
@@ -41,7 +48,13 @@ unfoldable pub printed : Outcome → List ℕ
 printed r =
     pick (eqb (r .number) 0)
     (bytesOf "ok" ++ field (r .count) ++ bytesOf "\n" ++ rowLines (r .table) (r .count) 0)
-    (bytesOf "no" ++ field (r .number) ++ field (r .start) ++ field (r .end) ++ field (r .start₂) ++ field (r .end₂) ++ bytesOf "\n")
+    (bytesOf "no"
+    ++ field (r .number)
+    ++ field (r .start)
+    ++ field (r .end)
+    ++ field (r .start₂)
+    ++ field (r .end₂)
+    ++ bytesOf "\n")
 
 -- D: "up to 65,536 bytes (more: refusal 1)", at document 01's depth.
 unfoldable pub programLimits : Limits

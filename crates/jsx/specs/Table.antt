@@ -40,15 +40,20 @@ holds t = length t / rowWords
 unfoldable pub written : List ℕ → List ℕ → List ℕ
 written rows t = rows ++ drop (length rows) t
 
+-- What a reading got is taken apart here. It never got it by a `stop`, and it got the input to its end
+-- (`answer-whole`, proofs/Accepted), so that nothing is lost with the two words that say so.
+
 -- D: "Each has a check (counts the records)": it has no table,
 unfoldable pub checked : Answer → Outcome
 checked (got a o p) = accepted (count o) []
 checked (trouble n a b c d) = refused n a b c d []
 
--- D: "and a read (also writes them)". D: 15, "accepted, but more records than the table holds", places "needed count, 0".
+-- D: "and a read (also writes them)". D: 15, "accepted, but more records than the table holds", places "needed count,
+-- 0".
 unfoldable pub readInto : List ℕ → Answer → Outcome
 readInto t (got a o p) =
-    pick (leb (count o) (holds t)) (accepted (count o) (written (records 0 0 missing o) t)) (refused tableTooSmall (count o) 0 0 0 t)
+    pick (leb (count o) (holds t)) (accepted (count o) (written (records 0 0 missing o) t))
+    (refused tableTooSmall (count o) 0 0 0 t)
 readInto t (trouble n a b c d) = refused n a b c d t
 
 unfoldable pub check : Limits → (ℕ → Rule) → List ℕ → Outcome
@@ -71,12 +76,13 @@ unfoldable pub spanPart : List ℕ → (start end : ℕ) → Part
 spanPart s a z = pick (leb a z) (pick (leb z (length s)) (record { found = true; start = a; end = z }) noPart) noPart
 
 -- The word at a place of a record's row.
-unfoldable pub word : List ℕ → (row place : ℕ) → ℕ
-word t k i = getD t (rowWords * k + i) 0
+unfoldable pub tableWord : List ℕ → (row place : ℕ) → ℕ
+tableWord t k i = getD t (rowWords * k + i) 0
 
 -- D: "A table lent to be read comes with its count; records from it on, or past the table, are out of range."
 unfoldable pub recordPart : List ℕ → List ℕ → (count number : ℕ) → Part
-recordPart s t m k = pick (ltb k m) (pick (ltb k (holds t)) (spanPart s (word t k 1) (word t k 2)) noPart) noPart
+recordPart s t m k =
+    pick (ltb k m) (pick (ltb k (holds t)) (spanPart s (tableWord t k 1) (tableWord t k 2)) noPart) noPart
 
 -- D: "The bytes of a record are answered by the part of the input itself".
 unfoldable pub bytesIn : List ℕ → Part → List ℕ

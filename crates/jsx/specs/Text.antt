@@ -12,7 +12,8 @@ inText = none (is "<" or is ">" or is "{" or is "}" or end)
 unfoldable pub text : Rule
 text = nodeOf Kind.text (step ⨾ many (when inText ⇒ step ∣ stop))
 
--- D: "A quoted attribute string ends at the first same quote. No escapes; line ends allowed." Never closed, 5 at "its first byte".
+-- D: "A quoted attribute string ends at the first same quote. No escapes; line ends allowed." Never closed, 5 at "its
+-- first byte".
 unfoldable pub quotedTurn : Char → Rule
 quotedTurn q =
     when end ⇒ refuse neverClosed mark

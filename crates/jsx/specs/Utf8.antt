@@ -14,8 +14,8 @@ second lo hi =
 unfoldable pub other : Rule
 other = second 0x80 0xBF
 
--- D: "The lead byte decides the length and the range of the second byte: 00-7F alone; C2-DF; E0 then A0-BF; E1-EC and EE-EF; ED then 80-9F;
--- F0 then 90-BF; F1-F3; F4 then 80-8F."
+-- D: "The lead byte decides the length and the range of the second byte: 00-7F alone; C2-DF; E0 then A0-BF; E1-EC and
+-- EE-EF; ED then 80-9F; F0 then 90-BF; F1-F3; F4 then 80-8F."
 unfoldable pub sequence : Rule
 sequence =
     when (0x00 ‥ 0x7F) ⇒ step

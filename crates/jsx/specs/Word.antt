@@ -73,7 +73,8 @@ fraction =
 unfoldable pub number : Rule
 number = marked (whole ⨾ fraction ⨾ (when inWord ⇒ refuse unexpected mark ∣ done))
 
--- D: "Strings: no backslash, LF or CR"; 3 at "inside a string, the offset of the bad byte"; never closed, 5 at "its first byte".
+-- D: "Strings: no backslash, LF or CR"; 3 at "inside a string, the offset of the bad byte"; never closed, 5 at "its
+-- first byte".
 unfoldable pub stringTurn : Char → Rule
 stringTurn q =
     when end ⇒ refuse neverClosed mark

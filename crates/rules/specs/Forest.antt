@@ -2,7 +2,8 @@
 use Prim.Native.Nat.{ℕ, suc, _+_}
 use mathlib.Core.List.{List, [], _∷_}
 
--- A group is a node of the tree, with its kind and its extra word, or the content between two tags, with the depth that is left inside it.
+-- A group is a node of the tree, with its kind and its extra word, or the content between two tags, with the depth
+-- that is left inside it.
 pub data Label : Type 0 where
   node : ℕ → ℕ → Label
   content : ℕ → Label

@@ -7,11 +7,11 @@ use Rattle.rules.specs.Record.{row}
 
 -- The six words of a row, by their names.
 pub data Row : Type 0 where
-  words : (kind start end parent after extra : ℕ) → Row
+  sixWords : (kind start end parent after extra : ℕ) → Row
 
 -- A row in front of others.
-abbrev pub put : Row → List ℕ → List ℕ
-put (words k a z p n x) rest = row k a z p n x rest
+abbrev pub inFront : Row → List ℕ → List ℕ
+inFront (sixWords k a z p n x) rest = row k a z p n x rest
 
 -- A table with each row changed by f. Words that make no whole row stay.
 unfoldable pub eachRow : (Row → Row) → List ℕ → List ℕ
@@ -21,7 +21,7 @@ eachRow f (k ∷ a ∷ []) = k ∷ a ∷ []
 eachRow f (k ∷ a ∷ z ∷ []) = k ∷ a ∷ z ∷ []
 eachRow f (k ∷ a ∷ z ∷ p ∷ []) = k ∷ a ∷ z ∷ p ∷ []
 eachRow f (k ∷ a ∷ z ∷ p ∷ n ∷ []) = k ∷ a ∷ z ∷ p ∷ n ∷ []
-eachRow f (k ∷ a ∷ z ∷ p ∷ n ∷ x ∷ rest) = put (f (words k a z p n x)) (eachRow f rest)
+eachRow f (k ∷ a ∷ z ∷ p ∷ n ∷ x ∷ rest) = inFront (f (sixWords k a z p n x)) (eachRow f rest)
 
 -- The parent of a moved row: the new outermost parent for the old one, else the same record under its new number.
 unfoldable pub reparent : (m par par′ p : ℕ) → ℕ
@@ -29,7 +29,7 @@ reparent m par par′ p = pick (eqb p par) par′ (m + p)
 
 -- A row, k bytes and m records further on.
 unfoldable pub movedRow : (k m par par′ : ℕ) → Row → Row
-movedRow k m par par′ (words kind a z p n x) = words kind (k + a) (k + z) (reparent m par par′ p) (m + n) x
+movedRow k m par par′ (sixWords kind a z p n x) = sixWords kind (k + a) (k + z) (reparent m par par′ p) (m + n) x
 
 -- A table, k bytes and m records further on, under par′ where it stood under par.
 unfoldable pub moved : (k m par par′ : ℕ) → List ℕ → List ℕ

@@ -1,11 +1,12 @@
 -- The meaning of a grammar: what a rule reads of an input, from a place on.
-use Prim.Native.Nat.{ℕ, zero, suc, _+_}
+use Prim.Native.Nat.{ℕ, zero, suc, _+_, _<_}
 use mathlib.Core.Bool.{Bool, true, false}
 use mathlib.Core.List.{List, [], _∷_}
 use lib.ListN.{length, getD}
 use lib.Dec.{ltb, eqb}
 use Rattle.rules.specs.Forest.{Forest, nil, byte, group, content, _⋈_}
-use Rattle.rules.specs.Rule.{Place, here, mark, fromMark, thisByte, Verdict, fine, differ, Rule, done, stop, step, refuse, when, starts, after, seq, many, wrap, said, marked, paired}
+use Rattle.rules.specs.Rule.{Place, here, mark, fromMark, thisByte, Verdict, fine, differ, Rule, done, stop}
+use Rattle.rules.specs.Rule.{step, refuse, when, starts, after, seq, many, wrap, said, marked, paired}
 
 -- Whether to go on, what was read, and the next place; or a refusal: its number and two places, start and end.
 pub data Answer : Type 0 where
@@ -38,6 +39,10 @@ behind u (trouble n a b c d) = trouble n a b c d
 abbrev pub byteAt : List ℕ → ℕ → ℕ
 byteAt s at = getD s at 256
 
+-- A list of bytes: each is below 256, so that none is taken for the end.
+unfoldable pub Plain : List ℕ → Type 0
+Plain s = (p : ℕ) → p < length s → byteAt s p < 256
+
 -- Whether these bytes stand at a place.
 unfoldable pub opens : List ℕ → List ℕ → ℕ → Bool
 opens s [] at = true
@@ -58,13 +63,15 @@ judged at q (differ n a b c d) x = trouble n (at + a) (at + b) (q + c) (q + d)
 unfoldable pub repeat : (ℕ → Answer) → (fuel at : ℕ) → Answer
 repeat body zero at = trouble stuck at at 0 0
 repeat body (suc f) at =
-    andThen (body at) (λ a o p. pick a (pick (ltb at p) (behind o (repeat body f p)) (trouble stuck at at 0 0)) (got true o p))
+    andThen (body at) (λ a o p.
+    pick a (pick (ltb at p) (behind o (repeat body f p)) (trouble stuck at at 0 0)) (got true o p))
 
 -- s: the input. fuel: the most turns of a loop, more than s has bytes. e: the mark.
 unfoldable pub parse : (s : List ℕ) (fuel : ℕ) → Rule → (e at : ℕ) → Answer
 parse s fuel done e at = got true nil at
 parse s fuel stop e at = got false nil at
-parse s fuel step e at = pick (ltb at (length s)) (got true (byte (byteAt s at) nil) (at + 1)) (trouble endOfInput at at 0 0)
+parse s fuel step e at =
+    pick (ltb at (length s)) (got true (byte (byteAt s at) nil) (at + 1)) (trouble endOfInput at at 0 0)
 parse s fuel (refuse n w) e at = refusal n w e at
 parse s fuel (when f t u) e at = pick (f (byteAt s at)) (parse s fuel t e at) (parse s fuel u e at)
 parse s fuel (starts w t u) e at = pick (opens s w at) (parse s fuel t e at) (parse s fuel u e at)
@@ -75,7 +82,8 @@ parse s fuel (seq t u) e at =
 parse s fuel (many t) e at = repeat (parse s fuel t e) fuel at
 parse s fuel (wrap f t) e at = andThen (parse s fuel t e at) (λ a o p. got a (group (f o) o nil) p)
 parse s fuel (said f r t u) e at =
-    andThen (parse s fuel r e at) (λ a o p. pick a (behind o (pick (f o) (parse s fuel t e p) (parse s fuel u e p))) (got false o p))
+    andThen (parse s fuel r e at) (λ a o p.
+    pick a (behind o (pick (f o) (parse s fuel t e p) (parse s fuel u e p))) (got false o p))
 parse s fuel (marked t) e at = parse s fuel t at at
 parse s fuel (paired t d c u v) e at =
     andThen (parse s fuel t e at) (λ a o p.

@@ -23,5 +23,6 @@ unfoldable pub records : (at n par : ℕ) → Forest → List ℕ
 records at n par nil = []
 records at n par (byte b u) = records (at + 1) n par u
 records at n par (group (node k x) c u) =
-    row k at (at + width c) par (n + (1 + count c)) x (records at (n + 1) n c ++ records (at + width c) (n + (1 + count c)) par u)
+    row k at (at + width c) par (n + (1 + count c)) x
+    (records at (n + 1) n c ++ records (at + width c) (n + (1 + count c)) par u)
 records at n par (group (content d) c u) = records at n par c ++ records (at + width c) (n + count c) par u

@@ -12,7 +12,8 @@ Test = ℕ → Bool
 pub data Place : Type 0 where
   here mark fromMark thisByte : Place
 
--- What two tags say of each other: they belong together, or a refusal's number with a place in each, start and end, counted from that tag's first byte.
+-- What two tags say of each other: they belong together, or a refusal's number with a place in each, start and end,
+-- counted from that tag's first byte.
 pub data Verdict : Type 0 where
   fine : Verdict
   differ : (number start end start₂ end₂ : ℕ) → Verdict
@@ -20,7 +21,7 @@ pub data Verdict : Type 0 where
 pub data Rule : Type 0 where
   -- nothing, and go on
   done : Rule
-  -- nothing, and end the innermost `many`
+  -- nothing, and end the innermost `many`; or, in the tag of a `paired`, end that: no content and no closing tag follow
   stop : Rule
   -- the byte here
   step : Rule
@@ -30,7 +31,8 @@ pub data Rule : Type 0 where
   when : Test → Rule → Rule → Rule
   -- one of two rules, by whether these bytes stand here
   starts : List ℕ → Rule → Rule → Rule
-  -- one of two rules, by the byte behind what the first rule reads here. The first rule's refusal counts; what it reads is not passed.
+  -- one of two rules, by the byte behind what the first rule reads here. The first rule's refusal counts; what it
+  -- reads is not passed.
   after : Rule → Test → Rule → Rule → Rule
   -- one rule, then the other
   seq : Rule → Rule → Rule
@@ -42,7 +44,8 @@ pub data Rule : Type 0 where
   said : (Forest → Bool) → Rule → Rule → Rule → Rule
   -- a rule whose mark is here
   marked : Rule → Rule
-  -- a tag and, unless it stops, a content with that depth left inside it, a closing tag, and the verdict on the two tags
+  -- a tag and, unless it stops, a content with that depth left inside it, a closing tag, and the verdict on the two
+  -- tags
   paired : (tag : Rule) (depth : ℕ) (content close : Rule) → (Forest → Forest → Verdict) → Rule
 
 infixr 40 _⨾_
