@@ -7,11 +7,15 @@ use Rattle.jsx.specs.Kind as Kind
 use Rattle.jsx.specs.Byte.{need, expect}
 use Rattle.jsx.specs.Blank.{blanks, pass}
 use Rattle.jsx.specs.Word.{word, primaryWord, digits, whole, fraction, number, stringBy, string}
-use Rattle.jsx.specs.Expression.{Inner, sibling, noSibling, primary, postfix, unary, joined, product, sum, both, either, question, conditional, expression, parenIn, bracketIn, callIn, prefixIn, choiceIn}
-use Rattle.jsx.specs.Braces.{closeContainer, container, emptyBraces, dots, spread, childBracesIn, emptyValueBraces, valueBracesIn}
+use Rattle.jsx.specs.Expression.{Inner, sibling, noSibling, primary, postfix, unary, joined, product, sum, both}
+use Rattle.jsx.specs.Expression.{either, question, conditional, expression, parenIn, bracketIn, callIn, prefixIn}
+use Rattle.jsx.specs.Expression.{choiceIn}
+use Rattle.jsx.specs.Braces.{closeContainer, container, emptyBraces, dots, spread, childBracesIn}
+use Rattle.jsx.specs.Braces.{emptyValueBraces, valueBracesIn}
 use Rattle.jsx.specs.Element.{fragmentIn, namedIn, elementIn}
 use Rattle.jsx.specs.Depth.{elementTooDeep, noLevel, level, within}
 
+-- All of them go on.
 pub record InnerGoes (n : Inner) : Type 0 where
   pub element : goes (n .element) ≡ true
   pub childBraces : goes (n .childBraces) ≡ true
@@ -24,10 +28,13 @@ pub record InnerGoes (n : Inner) : Type 0 where
   pub choice : goes (n .choice) ≡ true
 
 module _ (n : Inner) (h : InnerGoes n) where
+  -- So does an operand,
   pub unary-goes : goes (unary n) ≡ true
-  unfolding goes unary postfix primary noSibling sibling blanks need primaryWord word number whole fraction digits string stringBy
+  unfolding goes unary postfix primary noSibling sibling blanks need primaryWord word number whole fraction digits
+      string stringBy
   unary-goes = rw (h .prefix, h .element, h .paren)
 
+  -- and a conditional.
   pub conditional-goes : goes (conditional n) ≡ true
   unfolding goes conditional question either both sum product joined blanks
   conditional-goes = rw (unary-goes, h .choice)
@@ -45,7 +52,8 @@ module _ (n : Inner) (h : InnerGoes n) where
   container-goes = rw expression-goes
 
   level-goes : (d : ℕ) → InnerGoes (level d n)
-  unfolding goes level elementIn fragmentIn namedIn childBracesIn emptyBraces valueBracesIn emptyValueBraces parenIn bracketIn callIn prefixIn choiceIn pass blanks expect need
+  unfolding goes level elementIn fragmentIn namedIn childBracesIn emptyBraces valueBracesIn emptyValueBraces parenIn
+      bracketIn callIn prefixIn choiceIn pass blanks expect need
   level-goes d = record {
     element = refl;
     childBraces = rw (spread-goes Kind.spreadChild, container-goes);
@@ -60,8 +68,20 @@ module _ (n : Inner) (h : InnerGoes n) where
 
 none-goes : InnerGoes noLevel
 unfolding goes noLevel elementTooDeep pass blanks need
-none-goes = record { element = refl; childBraces = refl; valueBraces = refl; spreadBraces = refl; paren = refl; bracket = refl; call = refl; prefix = refl; choice = refl }
+none-goes =
+    record {
+      element = refl;
+      childBraces = refl;
+      valueBraces = refl;
+      spreadBraces = refl;
+      paren = refl;
+      bracket = refl;
+      call = refl;
+      prefix = refl;
+      choice = refl;
+    }
 
+-- So it is at every depth.
 pub within-goes : (d : ℕ) → InnerGoes (within d)
 unfolding within
 within-goes zero = none-goes

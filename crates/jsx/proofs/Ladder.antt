@@ -10,10 +10,12 @@ use Rattle.rules.specs.Rule.{Test, Rule, done, stop, after, many, _⨾_, _⇒_�
 use Rattle.rules.specs.Parse.{Answer, parse}
 use Rattle.rules.proofs.Run.{goes, never}
 use Rattle.rules.proofs.Moves.{moves}
-use Rattle.rules.proofs.Flat.{Next, Operator, sound, sound-steady, ladder-flat, Shuffle, keep, swap, also, flat-shuffled}
+use Rattle.rules.proofs.Flat.{Next, Operator, sound, sound-steady, ladder-flat, Shuffle, keep, swap, also}
+use Rattle.rules.proofs.Flat.{flat-shuffled}
 use Rattle.jsx.specs.Byte.{is, _or_}
 use Rattle.jsx.specs.Blank.{blanks}
-use Rattle.jsx.specs.Expression.{Inner, unary, joinedTurn, joined, times, plusMinus, andAnd, orOr, product, sum, both, either, question, conditional}
+use Rattle.jsx.specs.Expression.{Inner, unary, joinedTurn, joined, times, plusMinus, andAnd, orOr, product, sum}
+use Rattle.jsx.specs.Expression.{both, either, question, conditional}
 use Rattle.jsx.specs.Depth.{within}
 use Rattle.jsx.proofs.Goes.{within-goes, unary-goes}
 use Rattle.jsx.proofs.Shape.{blanks-goes}
@@ -24,6 +26,7 @@ use Rattle.jsx.proofs.Shape.{blanks-goes}
 abbrev pub nextUnary : Rule → Inner → Rule
 nextUnary operator n = blanks ⨾ operator ⨾ blanks ⨾ unary n
 
+-- One turn: any of the operators, the tightest tried first, and one more unary.
 unfoldable pub flatTurn : Inner → Rule
 flatTurn n =
     after blanks (is "*") ⇒ nextUnary times n
@@ -36,7 +39,7 @@ flatTurn n =
 unfoldable pub flatEither : Inner → Rule
 flatEither n = unary n ⨾ many (flatTurn n)
 
--- The same, with the loosest operator tried first.
+-- One turn, with the loosest operator tried first.
 unfoldable pub looseTurn : Inner → Rule
 looseTurn n =
     after blanks (is "|") ⇒ nextUnary orOr n
@@ -45,6 +48,7 @@ looseTurn n =
     ∣ after blanks (is "*") ⇒ nextUnary times n
     ∣ stop
 
+-- Unaries with any of the operators between them, the loosest tried first.
 unfoldable pub looseEither : Inner → Rule
 looseEither n = unary n ⨾ many (looseTurn n)
 
@@ -100,13 +104,17 @@ module _ (d : ℕ) (s : List ℕ) (F e : ℕ) (enough : length s < F) (at : ℕ)
   -- Products, sums, boths and eithers read the same as one loop, whatever the answer;
   pub either-flat : parse s F (either (within d)) e at ≡ parse s F (flatEither (within d)) e at
   unfolding either both sum product joined joinedTurn flatEither flatTurn
-  either-flat = ladder-flat blanks s F e enough (unary (within d)) operators (sound-steady blanks (unary (within d)) blanks-goes (unary-goes (within d) (within-goes d)) operators operators-sound) at inside
+  either-flat =
+      ladder-flat blanks s F e enough (unary (within d)) operators (sound-steady blanks (unary (within d)) blanks-goes
+      (unary-goes (within d) (within-goes d)) operators operators-sound) at inside
 
   -- also as the loop that tries the loosest operator first.
   pub either-loose : parse s F (either (within d)) e at ≡ parse s F (looseEither (within d)) e at
   either-loose = either-flat ∙ flat-loose (within d) s F e at
 
   -- So does a conditional: the loop, then a `?` or nothing.
-  pub conditional-flat : parse s F (conditional (within d)) e at ≡ parse s F (flatEither (within d) ⨾ (after blanks (is "?") ⇒ blanks ⨾ question (within d) ∣ done)) e at
+  pub conditional-flat : parse s F (conditional (within d)) e at
+      ≡ parse s F (flatEither (within d) ⨾ (after blanks (is "?") ⇒ blanks ⨾ question (within d) ∣ done)) e at
   unfolding conditional parse
-  conditional-flat = ap (λ (x : Answer). Next x (parse s F (after blanks (is "?") (blanks ⨾ question (within d)) done) e)) either-flat
+  conditional-flat =
+      ap (λ (x : Answer). Next x (parse s F (after blanks (is "?") (blanks ⨾ question (within d)) done) e)) either-flat

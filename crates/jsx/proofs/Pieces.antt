@@ -1,4 +1,5 @@
--- Well-formed UTF-8 by pieces: good pieces joined are good, and what is left of a good text behind a good piece is good.
+-- Well-formed UTF-8 by pieces: good pieces joined are good, and what is left of a good text
+-- behind a good piece is good.
 use mathlib.Core.Path.{_≡_, refl, sym, ap, subst, _∙_}
 use mathlib.Core.Bool.{Bool, true, false}
 use mathlib.Core.List.{List, [], _++_}
@@ -15,13 +16,15 @@ use Rattle.rules.proofs.Got.{trouble-got, got-same, behind-got}
 use Rattle.rules.proofs.Local.{Up, up, local-got}
 use Rattle.rules.proofs.Ends.{top-got, sees, Turn, last, goon, turn, refuel}
 use Rattle.rules.proofs.Agree.{Lacks, before, moved-along, byte-in, byte-behind, Plain, byte-end}
-use Rattle.rules.proofs.Flow.{Mode, near, tight, same, tight-near, seen-near, advances, Flow, f-weak, f-stop, f-step, f-refuse, f-when, f-seq, f-many, f-marked}
+use Rattle.rules.proofs.Flow.{Mode, near, tight, same, tight-near, seen-near, advances, Flow, f-weak, f-stop, f-step}
+use Rattle.rules.proofs.Flow.{f-refuse, f-when, f-seq, f-many, f-marked}
 use Rattle.rules.proofs.Reach.{reach}
 use Rattle.rules.proofs.Stuck.{Refuses}
 use Rattle.rules.proofs.Single.{notAtEnd, refusesBy, refuses-only}
 use Rattle.jsx.specs.Refusal.{notUtf8}
 use Rattle.jsx.specs.Byte.{end}
 use Rattle.jsx.specs.Utf8.{second, other, sequence, utf8}
+use Rattle.jsx.specs.Compose.{IsGot, WellFormed}
 
 -- ---- how far the rule looks: at no byte behind a sequence
 
@@ -46,9 +49,13 @@ module _ (C : ℕ → Rule) where
   unfolding other
   flow-other = flow-second 0x80 0xBF
 
-  flow-next : {t u : Rule} {k : Mode} → Flow C anyByte anyNode near t tight k → Flow C anyByte anyNode near u tight k → Flow C anyByte anyNode near (seq t u) tight k
+  flow-next : {t u : Rule} {k : Mode}
+      → Flow C anyByte anyNode near t tight k
+      → Flow C anyByte anyNode near u tight k
+      → Flow C anyByte anyNode near (seq t u) tight k
   flow-next x y = f-seq x (f-weak tight-near same same y)
 
+  -- A sequence has looked at no byte behind it.
   pub flow-sequence : {k : Mode} → Flow C anyByte anyNode near sequence tight k
   unfolding sequence
   flow-sequence =
@@ -62,22 +69,27 @@ module _ (C : ℕ → Rule) where
       (f-when seen-near (flow-next f-step (flow-next (flow-second 0x80 0x8F) (flow-next flow-other flow-other)))
       (f-refuse refl))))))))
 
+  -- A turn that goes on has looked at no byte behind it, and one that stops at the byte there.
   pub flow-turn : Flow C anyByte anyNode near oneTurn tight near
   flow-turn = f-when seen-near f-stop (f-marked flow-sequence)
 
+  -- The loop has looked at the byte where it ends, and no further.
   pub flow-utf8 : {k : Mode} → Flow C anyByte anyNode near utf8 near k
   unfolding utf8 advances sequence second other
   flow-utf8 = f-many refl (f-weak same tight-near same flow-turn)
 
 -- ---- the rule from a place of an input on, and one turn of its loop
 
+-- What the rule reads from a place on.
 pub reading : (s : List ℕ) (at : ℕ) → Answer
 reading s at = parsed s utf8 0 at
 
+-- What one turn of its loop reads there.
 unfoldable pub turning : (s : List ℕ) (at : ℕ) → Answer
 turning s at = parsed s oneTurn 0 at
 
 module _ (s : List ℕ) where
+  -- The rule is a loop of such turns, one more than the input has bytes.
   pub reading-loop : (at : ℕ) → reading s at ≡ repeat (turning s) (suc (length s)) at
   unfolding reading turning parse utf8
   reading-loop at = refl
@@ -86,10 +98,12 @@ module _ (s : List ℕ) where
   unfolding parseAll reading
   reading-all = refl
 
+  -- A turn that begins in the input ends in it.
   pub turn-within : (at : ℕ) {a : Bool} {o : Forest} {p : ℕ} → at ≤ length s → turning s at ≡ got a o p → p ≤ length s
   unfolding turning
   turn-within at i h = top-got s (suc (length s)) oneTurn 0 at i h
 
+  -- What a turn got ends not before it began.
   pub turn-up : (at : ℕ) → Up at (turning s at)
   unfolding turning
   turn-up at = up s (suc (length s)) oneTurn 0 at
@@ -104,21 +118,32 @@ module _ (s : List ℕ) where
   sequence-goes at h = got-goes (parsed s sequence at at) (on s (suc (length s)) sequence refl at at) h
 
   -- So the loop stops only where the input ends.
-  pub turn-stops : Plain s → (at : ℕ) {o : Forest} {p : ℕ} → at ≤ length s → turning s at ≡ got false o p → (at ≡ length s) × (p ≡ at)
+  pub turn-stops : Plain s
+      → (at : ℕ) {o : Forest} {p : ℕ} → at ≤ length s
+      → turning s at ≡ got false o p
+      → (at ≡ length s) × (p ≡ at)
   unfolding turning parse
   turn-stops pl at {o} {p} i h = go (eqb (byteAt s at) 256) refl h
     where
-      go : (b : Bool) → eqb (byteAt s at) 256 ≡ b → pick b (got false nil at) (parsed s sequence at at) ≡ got false o p → (at ≡ length s) × (p ≡ at)
+      go : (b : Bool)
+          → eqb (byteAt s at) 256 ≡ b
+          → pick b (got false nil at) (parsed s sequence at at) ≡ got false o p
+          → (at ≡ length s) × (p ≡ at)
       go true c k = let l = byte-end s pl at (eqb-true (byteAt s at) 256 c) in (omega arith, sym (got-same k .2))
       go false c k = never (sequence-goes at k)
 
   -- A loop that got something ends at the end of the input.
-  loop-ends : Plain s → (f at : ℕ) {a : Bool} {o : Forest} {p : ℕ} → at ≤ length s → repeat (turning s) f at ≡ got a o p → p ≡ length s
+  loop-ends : Plain s
+      → (f at : ℕ) {a : Bool} {o : Forest} {p : ℕ} → at ≤ length s
+      → repeat (turning s) f at ≡ got a o p
+      → p ≡ length s
   unfolding repeat
   loop-ends pl zero at i h = trouble-got h
   loop-ends pl (suc f) at {a} {o} {p} i h = go (turn (turning s) f at h .1) (λ q v k r. loop-ends pl f q k r)
     where
-      go : Turn (turning s) f at o p → ((q : ℕ) (v : Forest) → q ≤ length s → repeat (turning s) f q ≡ got true v p → p ≡ length s) → p ≡ length s
+      go : Turn (turning s) f at o p
+          → ((q : ℕ) (v : Forest) → q ≤ length s → repeat (turning s) f q ≡ got true v p → p ≡ length s)
+          → p ≡ length s
       go (last x) ih = let y = turn-stops pl at i x in y .1 ∙ y .0
       go (goon o₁ q v x lt r w) ih = ih q v (turn-within at i x) r
 
@@ -133,48 +158,47 @@ utf8-refuses s = refuses-only notUtf8 utf8 refl s
 
 -- ---- good texts
 
--- An answer that got something.
-abbrev pub IsGot : Answer → Type 0
-IsGot (got a o p) = Unit {0}
-IsGot (trouble n a b c d) = ⊥
-
--- Well-formed UTF-8: the rule gets something.
-unfoldable pub Good : List ℕ → Type 0
-Good s = IsGot (parseAll utf8 s)
-
 what-was-got : (x : Answer) → IsGot x → (a : Bool) × (o : Forest) × (p : ℕ) × (x ≡ got a o p)
 what-was-got (got a o p) h = (a, o, p, refl)
 what-was-got (trouble n a b c d) h = absurd h
 
-pub got-good : (s : List ℕ) {a : Bool} {o : Forest} {p : ℕ} → reading s 0 ≡ got a o p → Good s
-unfolding Good
+-- A text that the rule reads is good.
+pub got-good : (s : List ℕ) {a : Bool} {o : Forest} {p : ℕ} → reading s 0 ≡ got a o p → WellFormed s
+unfolding WellFormed
 got-good s e = subst IsGot (sym (reading-all s ∙ e)) tt
 
-pub good-got : (s : List ℕ) → Good s → (a : Bool) × (o : Forest) × (p : ℕ) × (reading s 0 ≡ got a o p)
-unfolding Good
+-- The rule reads a good text.
+pub good-got : (s : List ℕ) → WellFormed s → (a : Bool) × (o : Forest) × (p : ℕ) × (reading s 0 ≡ got a o p)
+unfolding WellFormed
 good-got s h = what-was-got (reading s 0) (subst IsGot (reading-all s) h)
 
-pub good-empty : Good []
-unfolding Good parseAll parse utf8 repeat
+-- The empty text is good.
+pub good-empty : WellFormed []
+unfolding WellFormed parseAll parse utf8 repeat
 good-empty = tt
 
 -- ---- two pieces, one behind the other
 
 module _ (x y : List ℕ) where
   -- A turn that goes on in the first piece goes on so in both.
-  turn-same : (at : ℕ) {o : Forest} {p : ℕ} → at ≤ length x → turning x at ≡ got true o p → turning (x ++ y) at ≡ got true o p
+  turn-same : (at : ℕ) {o : Forest} {p : ℕ}
+      → at ≤ length x
+      → turning x at ≡ got true o p
+      → turning (x ++ y) at ≡ got true o p
   unfolding turning
   turn-same at {o} {p} i h =
       let n = length-append x y in
       let t : p ≤ length x = turn-within x at i h in
-      let l = reach (λ d. done) anyByte anyNode x (suc (length x)) (flow-turn (λ d. done)) 0 at true o p h (length x) t .0 in
+      let l = reach (λ d. done) anyByte anyNode x (suc (length x)) (flow-turn (λ d. done)) 0 at true o p h
+      (length x) t .0 in
       let g = local-got (Lacks anyByte) x (x ++ y) 0 0 0 (length x) (suc (length x)) (omega arith)
       (before x (x ++ y) (length x) (byte-in x y) (omega arith) (omega arith) anyByte (λ j e. refl) 0)
       (suc (length x)) (suc (length (x ++ y))) oneTurn 0 0 at at (omega arith) refl (omega arith) l h (omega arith) in
       let k = g .2 in
       g .1 ∙ ap (got true o) (omega arith)
 
-  -- The loop over both, once it stands behind the first piece: E is its answer, acc what it has read, f the turns that are left.
+  -- The loop over both, once it stands behind the first piece:
+  -- E is its answer, acc what it has read, f the turns that are left.
   record Behind (E : Answer) : Type 0 where
     acc : Forest
     f : ℕ
@@ -182,66 +206,92 @@ module _ (x y : List ℕ) where
     rest : E ≡ behind acc (repeat (turning (x ++ y)) f (length x))
 
   -- Where the loop over the first piece comes to its end, the loop over both comes to stand behind it.
-  across : Plain x → (E : Answer) (acc : Forest) (g f at : ℕ) {a : Bool} {o : Forest} {p : ℕ} → at ≤ length x → repeat (turning x) g at ≡ got a o p
-      → E ≡ behind acc (repeat (turning (x ++ y)) f at) → length (x ++ y) < f + at → Behind E
+  across : Plain x
+      → (E : Answer) (acc : Forest) (g f at : ℕ) {a : Bool} {o : Forest} {p : ℕ} → at ≤ length x
+      → repeat (turning x) g at ≡ got a o p
+      → E ≡ behind acc (repeat (turning (x ++ y)) f at)
+      → length (x ++ y) < f + at
+      → Behind E
   unfolding repeat
   across pl E acc zero f at i h e l = trouble-got h
-  across pl E acc (suc g) f at {a} {o} {p} i h e l = go (turn (turning x) g at h .1) (λ acc₁ f₁ q v k r e₁ l₁. across pl E acc₁ g f₁ q k r e₁ l₁)
+  across pl E acc (suc g) f at {a} {o} {p} i h e l =
+      go (turn (turning x) g at h .1) (λ acc₁ f₁ q v k r e₁ l₁. across pl E acc₁ g f₁ q k r e₁ l₁)
     where
-      go : Turn (turning x) g at o p → ((acc₁ : Forest) (f₁ q : ℕ) (v : Forest) → q ≤ length x → repeat (turning x) g q ≡ got true v p → E ≡ behind acc₁ (repeat (turning (x ++ y)) f₁ q) → length (x ++ y) < f₁ + q → Behind E) → Behind E
+      go : Turn (turning x) g at o p
+          → ((acc₁ : Forest) (f₁ q : ℕ) (v : Forest) → q ≤ length x → repeat (turning x) g q ≡ got true v p
+          → E ≡ behind acc₁ (repeat (turning (x ++ y)) f₁ q) → length (x ++ y) < f₁ + q → Behind E)
+          → Behind E
       go (last z) ih =
           let w : at ≡ length x = turn-stops x pl at i z .0 in
-          record { acc = acc; f = f; turns = omega arith; rest = subst (λ (q : ℕ). E ≡ behind acc (repeat (turning (x ++ y)) f q)) w e }
+          record {
+            acc = acc;
+            f = f;
+            turns = omega arith;
+            rest = subst (λ (q : ℕ). E
+                ≡ behind acc (repeat (turning (x ++ y)) f q)) w e;
+          }
       go (goon o₁ q v z lt r w) ih =
           let n = length-append x y in
           let m = loop-more E (turning (x ++ y)) (length (x ++ y)) acc f at e l (omega arith) (turn-same at i z) lt in
           ih (acc ⋈ o₁) (m .0) q v (turn-within x at i z) r (m .2) (m .1)
 
-  good-behind : Plain x → Good x → Behind (reading (x ++ y) 0)
+  good-behind : Plain x → WellFormed x → Behind (reading (x ++ y) 0)
   good-behind pl h =
       let g = good-got x h in
-      across pl (reading (x ++ y) 0) nil (suc (length x)) (suc (length (x ++ y))) 0 (omega arith) (sym (reading-loop x 0) ∙ g .3)
+      across pl (reading (x ++ y) 0) nil (suc (length x)) (suc (length (x ++ y))) 0 (omega arith)
+      (sym (reading-loop x 0) ∙ g .3)
       (reading-loop (x ++ y) 0 ∙ sym (behind-none (repeat (turning (x ++ y)) (suc (length (x ++ y))) 0))) (omega arith)
 
   -- What is read of the second piece is read behind the first, and the other way round.
-  moved-in : {a : Bool} {o : Forest} {p : ℕ} → reading y 0 ≡ got a o p → (q : ℕ) × (reading (x ++ y) (length x) ≡ got a o q)
+  moved-in : {a : Bool} {o : Forest} {p : ℕ}
+      → reading y 0 ≡ got a o p
+      → (q : ℕ) × (reading (x ++ y) (length x) ≡ got a o q)
   unfolding reading
   moved-in {a} {o} {p} h =
       let n = length-append x y in
       let t = reading-within y 0 (omega arith) h in
       let g = local-got (λ w. Unit {0}) y (x ++ y) 0 (length x) 0 (suc (length y)) (suc (length y)) (omega arith)
-      (moved-along y (x ++ y) 0 (length x) 0 (λ p p′ e l. byte-behind x y p ∙ ap (byteAt (x ++ y)) (omega arith)) (omega arith) (λ w. Unit {0}) (suc (length y)))
-      (suc (length y)) (suc (length (x ++ y))) utf8 0 0 0 (length x) (omega arith) (omega arith) (omega arith) (sees y (suc (length y)) utf8 0 0 (omega arith)) h (omega arith) in
+      (moved-along y (x ++ y) 0 (length x) 0 (λ p p′ e l. byte-behind x y p ∙ ap (byteAt (x ++ y)) (omega arith))
+      (omega arith) (λ w. Unit {0}) (suc (length y)))
+      (suc (length y)) (suc (length (x ++ y))) utf8 0 0 0 (length x) (omega arith) (omega arith) (omega arith)
+      (sees y (suc (length y)) utf8 0 0 (omega arith)) h (omega arith) in
       (g .0, g .1)
 
-  moved-out : {a : Bool} {o : Forest} {p : ℕ} → reading (x ++ y) (length x) ≡ got a o p → (q : ℕ) × (reading y 0 ≡ got a o q)
+  moved-out : {a : Bool} {o : Forest} {p : ℕ}
+      → reading (x ++ y) (length x) ≡ got a o p
+      → (q : ℕ) × (reading y 0 ≡ got a o q)
   unfolding reading
   moved-out {a} {o} {p} h =
       let n = length-append x y in
       let t = reading-within (x ++ y) (length x) (omega arith) h in
-      let g = local-got (λ w. Unit {0}) (x ++ y) y (length x) 0 (length x) (suc (length (x ++ y))) (suc (length (x ++ y))) (omega arith)
-      (moved-along (x ++ y) y (length x) 0 (length x) (λ p p′ e l. ap (byteAt (x ++ y)) (omega arith) ∙ sym (byte-behind x y p′)) (omega arith) (λ w. Unit {0}) (suc (length (x ++ y))))
-      (suc (length (x ++ y))) (suc (length y)) utf8 0 0 (length x) 0 (omega arith) (omega arith) (omega arith) (sees (x ++ y) (suc (length (x ++ y))) utf8 0 (length x) (omega arith)) h (omega arith) in
+      let g = local-got (λ w. Unit {0}) (x ++ y) y (length x) 0 (length x) (suc (length (x ++ y)))
+      (suc (length (x ++ y))) (omega arith)
+      (moved-along (x ++ y) y (length x) 0 (length x) (λ p p′ e l. ap (byteAt (x ++ y)) (omega arith)
+      ∙ sym (byte-behind x y p′)) (omega arith) (λ w. Unit {0}) (suc (length (x ++ y))))
+      (suc (length (x ++ y))) (suc (length y)) utf8 0 0 (length x) 0 (omega arith) (omega arith) (omega arith)
+      (sees (x ++ y) (suc (length (x ++ y))) utf8 0 (length x) (omega arith)) h (omega arith) in
       (g .0, g .1)
 
   -- Good pieces joined are good.
-  pub good-join : Plain x → Good x → Good y → Good (x ++ y)
+  pub good-join : Plain x → WellFormed x → WellFormed y → WellFormed (x ++ y)
   good-join pl h k =
       let n = length-append x y in
       let B = good-behind pl h in
       let l : length (x ++ y) < B .f + length x = B .turns in
       let m = moved-in (good-got y k .3) in
       let t = reading-within (x ++ y) (length x) (omega arith) (m .1) in
-      let r = refuel (turning (x ++ y)) (turn-up (x ++ y)) (suc (length (x ++ y))) (B .f) (length x) (sym (reading-loop (x ++ y) (length x)) ∙ m .1) (omega arith) in
+      let r = refuel (turning (x ++ y)) (turn-up (x ++ y)) (suc (length (x ++ y))) (B .f) (length x)
+      (sym (reading-loop (x ++ y) (length x)) ∙ m .1) (omega arith) in
       got-good (x ++ y) (B .rest ∙ ap (behind (B .acc)) r)
 
   -- What is left of a good text behind a good piece is good.
-  pub good-rest : Plain x → Good (x ++ y) → Good x → Good y
+  pub good-rest : Plain x → WellFormed (x ++ y) → WellFormed x → WellFormed y
   good-rest pl k h =
       let n = length-append x y in
       let B = good-behind pl h in
       let g = good-got (x ++ y) k in
       let t = reading-within (x ++ y) 0 (omega arith) (g .3) in
       let b = behind-got (B .acc) (repeat (turning (x ++ y)) (B .f) (length x)) (sym (B .rest) ∙ g .3) in
-      let r = refuel (turning (x ++ y)) (turn-up (x ++ y)) (B .f) (suc (length (x ++ y))) (length x) (b .1) (omega arith) in
+      let r = refuel (turning (x ++ y)) (turn-up (x ++ y)) (B .f) (suc (length (x ++ y))) (length x) (b .1)
+      (omega arith) in
       got-good y (moved-out (reading-loop (x ++ y) (length x) ∙ r) .1)

@@ -5,8 +5,7 @@ use mathlib.Core.Path.{_≡_, refl}
 use mathlib.Core.List.{List, [], _∷_}
 use Rattle.rules.specs.Record.{row}
 use Rattle.jsx.specs.Reading.{Limits, stage, run}
-use Rattle.jsx.specs.Table.{missing}
-use Rattle.jsx.proofs.Case.{Case, limited, on, onBytes, rows, counted, refused, at, span, _&_, times, wrong}
+use Rattle.jsx.proofs.Case.{Case, limited, on, onBytes, rows, counted, refusedBy, at, span, _&_, copies, wrong}
 
 -- Document 01's length with another depth.
 abbrev deep : ℕ → Limits
@@ -14,11 +13,11 @@ deep d = record { bytes = 1_048_576; depth = d }
 
 -- 64 levels of elements.
 abbrev full : String
-full = times 64 "<a>"
+full = copies 64 "<a>"
 
 -- 64 levels: an element, braces and 62 parentheses.
 abbrev fullInBraces : String
-fullInBraces = "<a>{" & times 62 "("
+fullInBraces = "<a>{" & copies 62 "("
 
 abbrev first-ten : List Case
 first-ten =
@@ -105,9 +104,10 @@ smaller-ones =
     ∷ onBytes run (0xED ∷ 0xA0 ∷ 0x80 ∷ []) (at 2 0)
     ∷ onBytes run (0xF4 ∷ 0x90 ∷ 0x80 ∷ 0x80 ∷ []) (at 2 0)
     -- A19
-    ∷ on stage "< ></a>" (refused 8 0 3 5 6)
-    ∷ on stage "<a></ >" (refused 9 1 2 3 7)
-    ∷ on stage "<a b = 'c' d/>" (rows (row 1 0 14 missing 8 0 (row 18 0 14 0 8 0 (row 3 1 2 1 3 0 (row 8 3 10 1 6 0 (row 16 3 4 3 5 0 (row 10 7 10 3 6 0 (row 8 11 12 1 8 0 (row 16 11 12 6 8 0 [])))))))))
+    ∷ on stage "< ></a>" (refusedBy 8 0 3 5 6)
+    ∷ on stage "<a></ >" (refusedBy 9 1 2 3 7)
+    ∷ on stage "<a b = 'c' d/>" (rows (row 1 0 14 4294967295 8 0 (row 18 0 14 0 8 0 (row 3 1 2 1 3 0
+    (row 8 3 10 1 6 0 (row 16 3 4 3 5 0 (row 10 7 10 3 6 0 (row 8 11 12 1 8 0 (row 16 11 12 6 8 0 [])))))))))
     -- A20
     ∷ limited (deep 2) stage "<a b={c}/>" (counted 7)
     ∷ limited (deep 1) stage "<a b={c}/>" (at 14 5)
@@ -137,10 +137,12 @@ smaller-ones =
     ∷ on run "{a" (at 4 2)
     ∷ []
 
+-- Each input for A1 to A10 is answered as above.
 pub first-ten-hold : wrong first-ten ≡ []
 unfolding wrong
 first-ten-hold = refl
 
+-- Each input for A11 to A28 is answered as above.
 pub smaller-ones-hold : wrong smaller-ones ≡ []
 unfolding wrong
 smaller-ones-hold = refl

@@ -8,11 +8,12 @@ use lib.Dec.{eqb}
 use Rattle.rules.specs.Forest.{Label, node, content, Forest, width, direct, inside}
 use Rattle.rules.specs.Rule.{Verdict, fine, differ}
 use Rattle.rules.specs.Parse.{pick}
-use Rattle.rules.proofs.Spots.{Spot, here, under, past, skip, fill, direct-fill, Inside, outer, inner, inside-fill}
+use Rattle.rules.proofs.Spots.{Spot, arrived, under, past, skip, fill, direct-fill, Inside, outer, inner, inside-fill}
 use Rattle.rules.proofs.Flow.{IsNode, Numbered, Steady, Fair}
 use Rattle.jsx.specs.Kind as Kind
 use Rattle.jsx.specs.Name.{has, firstIs, isThis, opensReference, dashed, oneName, objectName}
-use Rattle.jsx.specs.Closing.{TagName, noName, named, furtherOn, nameIn, nodesOf, severalParts, partsOf, allSame, sameName, compared, verdict}
+use Rattle.jsx.specs.Closing.{TagName, noName, named, furtherOn, nameIn, nodesOf, severalParts, partsOf, allSame}
+use Rattle.jsx.specs.Closing.{sameName, compared, verdict}
 use Rattle.jsx.specs.Element.{pairedOrNot}
 
 -- ---- labels
@@ -25,6 +26,7 @@ node-if : (b : Bool) (x y : Label) → IsNode x → IsNode y → IsNode (pick b 
 node-if true x y h k = h
 node-if false x y h k = k
 
+-- A kind that is given,
 pub steady-node : (k : ℕ) → Steady (λ o. node k 0)
 steady-node k = record { plain = λ o. tt; stays = λ ω c₁. refl }
 
@@ -40,26 +42,30 @@ object-name-node : (w : List ℕ) → IsNode (objectName w)
 unfolding objectName
 object-name-node w = node-if (isThis w) _ _ tt tt
 
+-- a name of one part,
 pub steady-one-name : Steady (λ o. oneName (direct o))
 steady-one-name = steady-direct oneName one-name-node
 
+-- a part of another name,
 pub steady-other-part : Steady (λ o. node Kind.otherPart (dashed (direct o)))
 steady-other-part = steady-direct (λ w. node Kind.otherPart (dashed w)) (λ w. tt)
 
+-- the first part of a member,
 pub steady-object-name : Steady (λ o. objectName (direct o))
 steady-object-name = steady-direct objectName object-name-node
 
 -- A content stays a content, whatever stands in it.
 paired-fill : {d : ℕ} {c₀ u : Forest} (ω : Spot d c₀ u) (c₁ : Forest) → pairedOrNot (fill ω c₁) ≡ pairedOrNot u
 unfolding fill pairedOrNot
-paired-fill (here {l = node k x} p q) c₁ = refl
-paired-fill (here {l = content d′} p q) c₁ = refl
+paired-fill (arrived {l = node k x} p q) c₁ = refl
+paired-fill (arrived {l = content d′} p q) c₁ = refl
 paired-fill (under {l = node k x} ω) c₁ = refl
 paired-fill (under {l = content d′} ω) c₁ = refl
 paired-fill (past {l = node k x} ω) c₁ = paired-fill ω c₁
 paired-fill (past {l = content d′} ω) c₁ = refl
 paired-fill (skip ω) c₁ = paired-fill ω c₁
 
+-- and an element, paired or not.
 pub steady-element : Steady (λ o. node Kind.element (pairedOrNot o))
 steady-element = record { plain = λ o. tt; stays = λ ω c₁. ap (node Kind.element) (paired-fill ω c₁) }
 
@@ -68,8 +74,8 @@ steady-element = record { plain = λ o. tt; stays = λ ω c₁. ap (node Kind.el
 -- The bytes of each node stay.
 nodes-fill : {d : ℕ} {c₀ u : Forest} (ω : Spot d c₀ u) (c₁ : Forest) → nodesOf (fill ω c₁) ≡ nodesOf u
 unfolding fill nodesOf
-nodes-fill (here {l = node k x} p q) c₁ = node-content p
-nodes-fill (here {l = content d′} p q) c₁ = refl
+nodes-fill (arrived {l = node k x} p q) c₁ = node-content p
+nodes-fill (arrived {l = content d′} p q) c₁ = refl
 nodes-fill (under {l = node k x} {v = v} ω) c₁ = ap (λ (w : List ℕ). w ∷ nodesOf v) (direct-fill ω c₁)
 nodes-fill (under {l = content d′} ω) c₁ = refl
 nodes-fill (past {l = node k x} {c = c} ω) c₁ = ap (λ (w : List (List ℕ)). direct c ∷ w) (nodes-fill ω c₁)
@@ -97,8 +103,8 @@ alike-further n n′ (alike e) = alike e
 -- A tag's name is alike, whatever stands in a content inside the tag.
 name-fill : {d : ℕ} {c₀ u : Forest} (ω : Spot d c₀ u) (c₁ : Forest) → Alike (nameIn u) (nameIn (fill ω c₁))
 unfolding fill nameIn
-name-fill (here {l = node k x} p q) c₁ = node-content p
-name-fill (here {l = content d′} {c} {v} p q) c₁ = alike-further (width c) (width c₁) (alike-same (nameIn v))
+name-fill (arrived {l = node k x} p q) c₁ = node-content p
+name-fill (arrived {l = content d′} {c} {v} p q) c₁ = alike-further (width c) (width c₁) (alike-same (nameIn v))
 name-fill (under {l = node k x} ω) c₁ = alike (sym (parts-fill k ω c₁))
 name-fill (under {l = content d′} {c} {v} ω) c₁ = alike-further (width c) (width (fill ω c₁)) (alike-same (nameIn v))
 name-fill (past {l = node k x} ω) c₁ = alike refl
@@ -106,11 +112,13 @@ name-fill (past {l = content d′} {c = c} ω) c₁ = alike-further (width c) (w
 name-fill (skip ω) c₁ = alike-further 1 1 (name-fill ω c₁)
 
 -- So is the name in the first node.
-tag-name-fill : {d : ℕ} {c₀ u : Forest} (ω : Spot d c₀ u) (c₁ : Forest) → Alike (nameIn (inside u)) (nameIn (inside (fill ω c₁)))
+tag-name-fill : {d : ℕ} {c₀ u : Forest} (ω : Spot d c₀ u) (c₁ : Forest)
+    → Alike (nameIn (inside u)) (nameIn (inside (fill ω c₁)))
 tag-name-fill {u = u} ω c₁ = go (inside-fill ω)
   where
     go : Inside ω → Alike (nameIn (inside u)) (nameIn (inside (fill ω c₁)))
-    go (outer f) = subst (λ (v : Forest). Alike (nameIn (inside u)) (nameIn v)) (sym (f c₁)) (alike-same (nameIn (inside u)))
+    go (outer f) =
+        subst (λ (v : Forest). Alike (nameIn (inside u)) (nameIn v)) (sym (f c₁)) (alike-same (nameIn (inside u)))
     go (inner ω′ f) = subst (λ (v : Forest). Alike (nameIn (inside u)) (nameIn v)) (sym (f c₁)) (name-fill ω′ c₁)
 
 differ-fine : {X : Type 0} {n a b c d : ℕ} → differ n a b c d ≡ fine → X
@@ -126,12 +134,17 @@ unfolding sameName
 same-name-alike k l c c′ d e = ap (λ (ws : List (List ℕ)). pick (eqb k l) (allSame ws (partsOf l d)) false) e
 
 -- Of two tags, the one may be changed for one whose name is alike.
-compared-alike : {x y : TagName} (z : TagName) (m m′ n : ℕ) → Alike x y → compared m n x z ≡ fine → compared m′ n y z ≡ fine
+compared-alike : {x y : TagName} (z : TagName) (m m′ n : ℕ)
+    → Alike x y
+    → compared m n x z ≡ fine
+    → compared m′ n y z ≡ fine
 unfolding compared
 compared-alike noName m m′ n no-name h = refl
 compared-alike (named q l d) m m′ n no-name h = differ-fine h
 compared-alike noName m m′ n (alike e) h = differ-fine h
-compared-alike (named q l d) m m′ n (alike {k = k} {c} {c′} e) h = let t : sameName k c′ l d ≡ true = sym (same-name-alike k l c c′ d e) ∙ fine-if (sameName k c l d) _ _ _ _ _ h in rw t
+compared-alike (named q l d) m m′ n (alike {k = k} {c} {c′} e) h =
+    let t : sameName k c′ l d ≡ true = sym (same-name-alike k l c c′ d e) ∙ fine-if (sameName k c l d) _ _ _ _ _ h in
+    rw t
 
 numbered-if : (b : Bool) (v w : Verdict) → Numbered v → Numbered w → Numbered (pick b v w)
 numbered-if true v w h k = h
@@ -144,9 +157,11 @@ compared-numbered m n noName (named q l d) = refl
 compared-numbered m n (named p k c) noName = refl
 compared-numbered m n (named p k c) (named q l d) = numbered-if (sameName k c l d) _ _ tt refl
 
+-- So the verdict on two tags is fair.
 pub fair-verdict : Fair verdict
 unfolding verdict
 fair-verdict = record {
   numbered = λ o r. compared-numbered (width o) (width r) (nameIn (inside o)) (nameIn (inside r));
-  stays = λ {d} {c₀} {o} ω c₁ r h. compared-alike (nameIn (inside r)) (width o) (width (fill ω c₁)) (width r) (tag-name-fill ω c₁) h;
+  stays = λ {d} {c₀} {o} ω c₁ r h. compared-alike (nameIn (inside r)) (width o) (width (fill ω c₁)) (width r)
+      (tag-name-fill ω c₁) h;
 }

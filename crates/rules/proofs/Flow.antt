@@ -1,19 +1,21 @@
--- How far a reading has looked beyond the place where it ends. A rule takes what was looked at before it to what was looked at after it.
+-- How far a reading has looked beyond the place where it ends.
+-- A rule takes what was looked at before it to what was looked at after it.
 use mathlib.Core.Path.{_≡_, refl}
 use mathlib.Core.Bool.{Bool, true, false}
 use mathlib.Core.List.{List, [], _∷_}
 use Prim.Native.Nat.{ℕ}
 use lib.Dec.{eqb}
 use Rattle.rules.specs.Forest.{Label, node, content, Forest}
-use Rattle.rules.specs.Rule.{Place, Test, Verdict, fine, differ, Rule, done, stop, step, refuse, when, starts, after, seq, many, wrap, said, marked, paired}
+use Rattle.rules.specs.Rule.{Place, Test, Verdict, fine, differ, Rule, done, stop, step, refuse, when, starts}
+use Rattle.rules.specs.Rule.{after, seq, many, wrap, said, marked, paired}
 use Rattle.rules.specs.Parse.{got, pick, parse}
 use Rattle.rules.proofs.Run.{goes, never}
 use Rattle.rules.proofs.Agree.{Lacks}
 use Rattle.rules.proofs.Moves.{moves}
 use Rattle.rules.proofs.Spots.{Spot, fill}
 
--- Looked at: nothing behind the end, and the last byte is one that closes; nothing behind the end; the byte at the end; or all that a rule reads from the end on,
--- and the byte behind that.
+-- Looked at: nothing behind the end, and the last byte is one that closes; nothing behind the end; the byte at the end;
+-- or all that a rule reads from the end on, and the byte behind that.
 pub data Mode : Type 0 where
   shut : Mode
   tight : Mode
@@ -73,19 +75,26 @@ unfoldable pub lacking : Test → List ℕ → Bool
 lacking q [] = true
 lacking q (b ∷ w) = pick (q b) false (lacking q w)
 
+-- What the test computes is what the law of locality asks for.
 pub lacking-lacks : (q : Test) (w : List ℕ) → lacking q w ≡ true → Lacks q w
 unfolding lacking
 lacking-lacks q [] h = tt
 lacking-lacks q (b ∷ w) h = go (q b) refl h (λ k. lacking-lacks q w k)
   where
-    go : (c : Bool) → q b ≡ c → pick c false (lacking q w) ≡ true → (lacking q w ≡ true → Lacks q w) → (q b ≡ false) × Lacks q w
+    go : (c : Bool)
+        → q b ≡ c
+        → pick c false (lacking q w) ≡ true
+        → (lacking q w ≡ true → Lacks q w)
+        → (q b ≡ false) × Lacks q w
     go true e k ih = never k
     go false e k ih = (e, ih k)
 
+-- No content's label.
 abbrev pub IsNode : Label → Type 0
 IsNode (node k x) = Unit {0}
 IsNode (content d) = ⊥
 
+-- A refusal's number is not 0.
 abbrev pub Numbered : Verdict → Type 0
 Numbered fine = Unit {0}
 Numbered (differ n a b c d) = eqb n 0 ≡ false
@@ -104,7 +113,8 @@ pub record Fair (v : Forest → Forest → Verdict) : Type 0 where
 abbrev pub Fitting : (R : Label → Forest → Type 0) (l : Forest → Label) (t : Rule) → Type 0
 Fitting R l t = (s : List ℕ) (F e at : ℕ) (a : Bool) (o : Forest) (p : ℕ) → parse s F t e at ≡ got a o p → R (l o) o
 
--- C: what reads a content with that depth left inside it. Q: the bytes that close; no `starts` asks for one of them. R: what holds of every node.
+-- C: what reads a content with that depth left inside it. Q: the bytes that close; no `starts` asks for one of them. R:
+-- what holds of every node.
 -- From a mode, a rule, to a mode where it goes on, and to a mode where it stops.
 pub data Flow (C : ℕ → Rule) (Q : Test) (R : Label → Forest → Type 0) : Mode → Rule → Mode → Mode → Type 0 where
   f-weak : {i i′ g g′ k k′ : Mode} {t : Rule} → i ⊑ i′ → g ⊑ g′ → k ⊑ k′ → Flow C Q R i′ t g k → Flow C Q R i t g′ k′
@@ -112,17 +122,58 @@ pub data Flow (C : ℕ → Rule) (Q : Test) (R : Label → Forest → Type 0) : 
   f-stop : {i g : Mode} → Flow C Q R i stop g i
   f-step : {k : Mode} → Flow C Q R near step tight k
   f-refuse : {i g k : Mode} {n : ℕ} {w : Place} → eqb n 0 ≡ false → Flow C Q R i (refuse n w) g k
-  f-when : {i g k : Mode} {f : Test} {t u : Rule} → Seen i → Flow C Q R i t g k → Flow C Q R i u g k → Flow C Q R i (when f t u) g k
-  f-expect : {k : Mode} {f : Test} {u : Rule} → ((b : ℕ) → f b ≡ true → Q b ≡ true) → Flow C Q R near u shut k → Flow C Q R near (when f step u) shut k
-  f-starts : {i g k : Mode} {w : List ℕ} {t u : Rule} → Seen i → lacking Q w ≡ true → Flow C Q R i t g k → Flow C Q R i u g k → Flow C Q R i (starts w t u) g k
-  f-after : {g k : Mode} {f : Test} {r t u : Rule} → goes r ≡ true → Flow C Q R near r near near → Flow C Q R (pend r) t g k → Flow C Q R (pend r) u g k → Flow C Q R (pend r) (after r f t u) g k
+  f-when : {i g k : Mode} {f : Test} {t u : Rule}
+      → Seen i
+      → Flow C Q R i t g k
+      → Flow C Q R i u g k
+      → Flow C Q R i (when f t u) g k
+  f-expect : {k : Mode} {f : Test} {u : Rule}
+      → ((b : ℕ) → f b ≡ true → Q b ≡ true)
+      → Flow C Q R near u shut k
+      → Flow C Q R near (when f step u) shut k
+  f-starts : {i g k : Mode} {w : List ℕ} {t u : Rule}
+      → Seen i
+      → lacking Q w ≡ true
+      → Flow C Q R i t g k
+      → Flow C Q R i u g k
+      → Flow C Q R i (starts w t u) g k
+  f-after : {g k : Mode} {f : Test} {r t u : Rule}
+      → goes r ≡ true
+      → Flow C Q R near r near near
+      → Flow C Q R (pend r) t g k
+      → Flow C Q R (pend r) u g k
+      → Flow C Q R (pend r) (after r f t u) g k
   f-seq : {i m g k : Mode} {t u : Rule} → Flow C Q R i t m k → Flow C Q R m u g k → Flow C Q R i (seq t u) g k
   f-many : {m k k′ : Mode} {t : Rule} → advances t ≡ true → Flow C Q R m t m k → Flow C Q R m (many t) k k′
-  f-wrap : {i g k : Mode} {l : Forest → Label} {t : Rule} → Steady l → Fitting R l t → Flow C Q R i t g k → Flow C Q R i (wrap l t) g k
-  f-said : {i m g k : Mode} {f : Forest → Bool} {r t u : Rule} → clear r ≡ true → Flow C Q R i r m k → Flow C Q R m t g k → Flow C Q R m u g k → Flow C Q R i (said f r t u) g k
+  f-wrap : {i g k : Mode} {l : Forest → Label} {t : Rule}
+      → Steady l
+      → Fitting R l t
+      → Flow C Q R i t g k
+      → Flow C Q R i (wrap l t) g k
+  f-said : {i m g k : Mode} {f : Forest → Bool} {r t u : Rule}
+      → clear r ≡ true
+      → Flow C Q R i r m k
+      → Flow C Q R m t g k
+      → Flow C Q R m u g k
+      → Flow C Q R i (said f r t u) g k
   f-marked : {i g k : Mode} {t : Rule} → Flow C Q R i t g k → Flow C Q R i (marked t) g k
-  f-paired : {i m k k′ : Mode} {d : ℕ} {t u : Rule} {v : Forest → Forest → Verdict} → Fair v → advances t ≡ true → Flow C Q R i t shut shut → goes (C d) ≡ true → Flow C Q R shut (C d) m k′ → clear u ≡ true → Flow C Q R m u shut shut
+  f-paired : {i m k k′ : Mode} {d : ℕ} {t u : Rule} {v : Forest → Forest → Verdict}
+      → Fair v
+      → advances t ≡ true
+      → Flow C Q R i t shut shut
+      → goes (C d) ≡ true
+      → Flow C Q R shut (C d) m k′
+      → clear u ≡ true
+      → Flow C Q R m u shut shut
       → Flow C Q R i (paired t d (C d) u v) shut k
   -- What was looked over is read: the first part of it, or all of it.
-  f-pass : {k : Mode} {t r : Rule} → goes t ≡ true → clear t ≡ true → Flow C Q R near t near near → Flow C Q R (pend (seq t r)) t (pend r) k
-  f-last : {k : Mode} {r : Rule} → goes r ≡ true → clear r ≡ true → Flow C Q R near r near near → Flow C Q R (pend r) r near k
+  f-pass : {k : Mode} {t r : Rule}
+      → goes t ≡ true
+      → clear t ≡ true
+      → Flow C Q R near t near near
+      → Flow C Q R (pend (seq t r)) t (pend r) k
+  f-last : {k : Mode} {r : Rule}
+      → goes r ≡ true
+      → clear r ≡ true
+      → Flow C Q R near r near near
+      → Flow C Q R (pend r) r near k

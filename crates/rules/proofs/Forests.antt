@@ -56,23 +56,31 @@ length-records (group (content d) c u) at n par =
     simp length-append (omega arith)
 
 -- The same place, number and parent give the same table.
-pub records-same : (u : Forest) {at at′ n n′ par par′ : ℕ} → at ≡ at′ → n ≡ n′ → par ≡ par′ → records at n par u ≡ records at′ n′ par′ u
+pub records-same : (u : Forest) {at at′ n n′ par par′ : ℕ}
+    → at ≡ at′
+    → n ≡ n′
+    → par ≡ par′
+    → records at n par u ≡ records at′ n′ par′ u
 records-same u p q r = λ i. records (p i) (q i) (r i) u
 
 -- The table of one forest behind the other is the one's table, then the other's, further on.
-pub records-join : (u v : Forest) (at n par : ℕ) → records at n par (u ⋈ v) ≡ records at n par u ++ records (at + width u) (n + count u) par v
+pub records-join : (u v : Forest) (at n par : ℕ)
+    → records at n par (u ⋈ v) ≡ records at n par u ++ records (at + width u) (n + count u) par v
 unfolding count records width _⋈_
 records-join nil v at n par = records-same v (omega arith) (omega arith) refl
 records-join (byte b u) v at n par =
-    records-join u v (at + 1) n par ∙ ap (λ (t : List ℕ). records (at + 1) n par u ++ t) (records-same v (omega arith) refl refl)
+    records-join u v (at + 1) n par
+    ∙ ap (λ (t : List ℕ). records (at + 1) n par u ++ t) (records-same v (omega arith) refl refl)
 records-join (group (node k x) c u) v at n par =
     ap (λ (t : List ℕ). row k at (at + width c) par (n + (1 + count c)) x t)
     (ap (λ (t : List ℕ). records at (n + 1) n c ++ t)
     (records-join u v (at + width c) (n + (1 + count c)) par
-    ∙ ap (λ (t : List ℕ). records (at + width c) (n + (1 + count c)) par u ++ t) (records-same v (omega arith) (omega arith) refl))
+    ∙ ap (λ (t : List ℕ). records (at + width c) (n + (1 + count c)) par u ++ t)
+    (records-same v (omega arith) (omega arith) refl))
     ∙ sym (append-assoc (records at (n + 1) n c) _ _))
 records-join (group (content d) c u) v at n par =
     ap (λ (t : List ℕ). records at n par c ++ t)
     (records-join u v (at + width c) (n + count c) par
-    ∙ ap (λ (t : List ℕ). records (at + width c) (n + count c) par u ++ t) (records-same v (omega arith) (omega arith) refl))
+    ∙ ap (λ (t : List ℕ). records (at + width c) (n + count c) par u ++ t)
+    (records-same v (omega arith) (omega arith) refl))
     ∙ sym (append-assoc (records at n par c) _ _)

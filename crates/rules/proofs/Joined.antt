@@ -18,7 +18,9 @@ both : (a b : Bool) → pick a b false ≡ true → (a ≡ true) × (b ≡ true)
 both true b e = (refl, e)
 both false b e = let z : _≡_ {A = ℕ} 0 1 = cc in absurd (omega arith)
 
-last-ends : {s : List ℕ} → Table s → (z k a e p n x : ℕ) → lastEnds z (s ++ row k a e p n x []) ≡ s ++ row k a z p n x []
+last-ends : {s : List ℕ}
+    → Table s
+    → (z k a e p n x : ℕ) → lastEnds z (s ++ row k a e p n x []) ≡ s ++ row k a z p n x []
 unfolding lastEnds
 last-ends none z k a e p n x = refl
 last-ends (more none) z k a e p n x = refl
@@ -35,14 +37,19 @@ no-rows (group (content d) c u) at n par h =
     λ i. no-rows c at n par (omega arith) i ++ no-rows u (at + width c) (n + count c) par (omega arith) i
 
 -- A node without nodes inside it has one row.
-one-row : (k x : ℕ) (c v : Forest) (at n par : ℕ) → count c ≡ 0 → records at n par (group (node k x) c v) ≡ row k at (at + width c) par (n + 1) x (records (at + width c) (n + 1) par v)
+one-row : (k x : ℕ) (c v : Forest) (at n par : ℕ)
+    → count c ≡ 0
+    → records at n par (group (node k x) c v)
+    ≡ row k at (at + width c) par (n + 1) x (records (at + width c) (n + 1) par v)
 unfolding records
 one-row k x c v at n par h =
     row-same k at par x refl (omega arith)
-    ((λ i. no-rows c at (n + 1) n h i ++ records (at + width c) (n + (1 + count c)) par v) ∙ records-same v refl (omega arith) refl)
+    ((λ i. no-rows c at (n + 1) n h i ++ records (at + width c) (n + (1 + count c)) par v)
+    ∙ records-same v refl (omega arith) refl)
 
 -- The rows of two texts that have become one: its row ends where the second text ended.
-module _ (w : Forest) (k x : ℕ) (c : Forest) (k′ x′ : ℕ) (c′ v : Forest) (at n par : ℕ) (h : count c ≡ 0) (h′ : count c′ ≡ 0) where
+module _ (w : Forest) (k x : ℕ) (c : Forest) (k′ x′ : ℕ) (c′ v : Forest) (at n par : ℕ) (h : count c ≡ 0)
+    (h′ : count c′ ≡ 0) where
   one : Forest
   one = w ⋈ group (node k x) c nil
 
@@ -57,14 +64,17 @@ module _ (w : Forest) (k x : ℕ) (c : Forest) (k′ x′ : ℕ) (c′ v : Fores
   unfolding one count
   count-one = omega (arith, count-behind w (group (node k x) c nil))
 
-  rows-front : records at n par one ≡ records at n par w ++ row k (at + width w) (at + width one) par (n + count one) x []
+  rows-front : records at n par one
+      ≡ records at n par w ++ row k (at + width w) (at + width one) par (n + count one) x []
   unfolding one records
   rows-front = records-join w (group (node k x) c nil) at n par
       ∙ ap (λ (t : List ℕ). records at n par w ++ t)
-      (one-row k x c nil (at + width w) (n + count w) par h ∙ row-same k (at + width w) par x (omega (arith, width-one)) (omega (arith, count-one)) refl)
+      (one-row k x c nil (at + width w) (n + count w) par h
+      ∙ row-same k (at + width w) par x (omega (arith, width-one)) (omega (arith, count-one)) refl)
 
   rows-merged : records at n par (w ⋈ group (node k x) (c ⋈ c′) v)
-      ≡ records at n par w ++ row k (at + width w) (width one + (at + width c′)) par (n + count one) x (records (width one + (at + width c′)) (n + count one) par v)
+      ≡ records at n par w ++ row k (at + width w) (width one + (at + width c′)) par (n + count one) x
+      (records (width one + (at + width c′)) (n + count one) par v)
   rows-merged = records-join w (group (node k x) (c ⋈ c′) v) at n par
       ∙ ap (λ (t : List ℕ). records at n par w ++ t)
       (one-row k x (c ⋈ c′) v (at + width w) (n + count w) par (omega (arith, count-behind c c′))
@@ -77,21 +87,29 @@ module _ (w : Forest) (k x : ℕ) (c : Forest) (k′ x′ : ℕ) (c′ v : Fores
       m = omega (arith, count-one)
 
   merged : Foreign par n (count other) → records at n par (w ⋈ group (node k x) (c ⋈ c′) v)
-      ≡ lastEnds (width one + firstEnd (records at n par other)) (records at n par one) ++ moved (width one) (count one - 1) par par (drop rowWords (records at n par other))
+      ≡ lastEnds (width one + firstEnd (records at n par other)) (records at n par one)
+      ++ moved (width one) (count one - 1) par par (drop rowWords (records at n par other))
   unfolding other count firstEnd
   merged o = rows-merged
-      ∙ sym ((λ i. lastEnds (width one + firstEnd (rows-back i)) (rows-front i) ++ moved (width one) (count one - 1) par par (drop rowWords (rows-back i)))
-      ∙ (λ i. last-ends (table-records w at n par) (width one + (at + width c′)) k (at + width w) (at + width one) par (n + count one) x i ++ rest i)
+      ∙ sym ((λ i. lastEnds (width one + firstEnd (rows-back i)) (rows-front i)
+      ++ moved (width one) (count one - 1) par par (drop rowWords (rows-back i)))
+      ∙ (λ i. last-ends (table-records w at n par) (width one + (at + width c′)) k (at + width w) (at + width one) par
+      (n + count one) x i ++ rest i)
       ∙ append-assoc (records at n par w) _ _)
     where
-      rows-back : records at n par other ≡ row k′ at (at + width c′) par (n + 1) x′ (records (at + width c′) (n + 1) par v)
+      rows-back : records at n par other
+          ≡ row k′ at (at + width c′) par (n + 1) x′ (records (at + width c′) (n + 1) par v)
       rows-back = one-row k′ x′ c′ v at n par h′
 
-      rest : moved (width one) (count one - 1) par par (records (at + width c′) (n + 1) par v) ≡ records (width one + (at + width c′)) (n + count one) par v
-      rest = sym (records-moved (width one) (count one - 1) par par v (at + width c′) (n + 1) (λ q l r. o q (omega arith) (omega arith)))
+      rest : moved (width one) (count one - 1) par par (records (at + width c′) (n + 1) par v)
+          ≡ records (width one + (at + width c′)) (n + count one) par v
+      rest =
+          sym (records-moved (width one) (count one - 1) par par v (at + width c′) (n + 1)
+          (λ q l r. o q (omega arith) (omega arith)))
           ∙ records-same v refl (omega (arith, count-one)) refl
 
 module _ (isText : Label → Bool) where
+  -- Nothing joined behind a forest is that forest.
   pub join-nil : (u : Forest) → join isText u nil ≡ u
   unfolding join meet
   join-nil nil = refl
@@ -108,23 +126,30 @@ module _ (isText : Label → Bool) where
   meet-left l c (group l′ c′ v) h = rw h
 
   -- A text stays apart from what is no text.
-  pub meet-right : (l : Label) (c : Forest) (l′ : Label) (c′ v : Forest) → isText l′ ≡ false → meet isText l c (group l′ c′ v) ≡ group l c (group l′ c′ v)
+  pub meet-right : (l : Label) (c : Forest) (l′ : Label) (c′ v : Forest)
+      → isText l′ ≡ false
+      → meet isText l c (group l′ c′ v) ≡ group l c (group l′ c′ v)
   unfolding meet
   meet-right l c l′ c′ v h = go (isText l)
     where
-      go : (b : Bool) → pick (pick b (isText l′) false) (group l (c ⋈ c′) v) (group l c (group l′ c′ v)) ≡ group l c (group l′ c′ v)
+      go : (b : Bool)
+          → pick (pick b (isText l′) false) (group l (c ⋈ c′) v) (group l c (group l′ c′ v)) ≡ group l c (group l′ c′ v)
       go true = rw h
       go false = refl
 
   -- Behind what is no text the join goes on.
-  pub join-left : (l : Label) (c u v : Forest) → isText l ≡ false → join isText (group l c u) v ≡ group l c (join isText u v)
+  pub join-left : (l : Label) (c u v : Forest)
+      → isText l ≡ false
+      → join isText (group l c u) v ≡ group l c (join isText u v)
   unfolding join
   join-left l c nil v h = meet-left l c v h
   join-left l c (byte b u) v h = refl
   join-left l c (group l′ c′ u) v h = refl
 
   -- A text at the end and a text at the start become one.
-  pub join-texts : (u : Forest) (l : Label) (c : Forest) (l′ : Label) (c′ v : Forest) → isText l ≡ true → isText l′ ≡ true
+  pub join-texts : (u : Forest) (l : Label) (c : Forest) (l′ : Label) (c′ v : Forest)
+      → isText l ≡ true
+      → isText l′ ≡ true
       → join isText (u ⋈ group l c nil) (group l′ c′ v) ≡ u ⋈ group l (c ⋈ c′) v
   unfolding join meet _⋈_
   join-texts nil l c l′ c′ v h h′ = rw (h, h′)
@@ -140,7 +165,8 @@ module _ (isText : Label → Bool) where
   join-apart (byte b u) v h = ap (byte b) (join-apart u v h)
   join-apart (group l c nil) nil h = refl
   join-apart (group l c nil) (byte b v) h = refl
-  join-apart (group l c nil) (group l′ c′ v) h = ap (λ (x : Bool). pick x (group l (c ⋈ c′) v) (group l c (group l′ c′ v))) h
+  join-apart (group l c nil) (group l′ c′ v) h =
+      ap (λ (x : Bool). pick x (group l (c ⋈ c′) v) (group l c (group l′ c′ v))) h
   join-apart (group l c (byte b u)) v h = ap (group l c) (join-apart (byte b u) v h)
   join-apart (group l c (group l′ c′ u)) v h = ap (group l c) (join-apart (group l′ c′ u) v h)
 
@@ -160,20 +186,72 @@ module _ (isText : Label → Bool) where
 
   met-byte : (b : ℕ) {u v : Forest} → Met u v → Met (byte b u) v
   unfolding join _⋈_
-  met-byte b h = record { before = byte b (h .before); label = h .label; text = h .text; label′ = h .label′; text′ = h .text′; later = h .later; left = ap (byte b) (h .left); right = h .right; isOne = h .isOne; isOther = h .isOther; joined = ap (byte b) (h .joined) }
+  met-byte b h =
+      record {
+        before = byte b (h .before);
+        label = h .label;
+        text = h .text;
+        label′ = h .label′;
+        text′ = h .text′;
+        later = h .later;
+        left = ap (byte
+            b) (h .left);
+        right = h .right;
+        isOne = h .isOne;
+        isOther = h .isOther;
+        joined = ap (byte b) (h .joined);
+      }
 
-  met-group : (l : Label) (c : Forest) {u v : Forest} → join isText (group l c u) v ≡ group l c (join isText u v) → Met u v → Met (group l c u) v
+  met-group : (l : Label) (c : Forest) {u v : Forest}
+      → join isText (group l c u) v ≡ group l c (join isText u v)
+      → Met u v
+      → Met (group l c u) v
   unfolding _⋈_
-  met-group l c e h = record { before = group l c (h .before); label = h .label; text = h .text; label′ = h .label′; text′ = h .text′; later = h .later; left = ap (group l c) (h .left); right = h .right; isOne = h .isOne; isOther = h .isOther; joined = e ∙ ap (group l c) (h .joined) }
+  met-group l c e h =
+      record {
+        before = group l c (h .before);
+        label = h .label;
+        text = h .text;
+        label′ = h .label′;
+        text′ = h .text′;
+        later = h .later;
+        left = ap (group l
+            c) (h .left);
+        right = h .right;
+        isOne = h .isOne;
+        isOther = h .isOther;
+        joined = e ∙ ap (group l c) (h .joined);
+      }
 
   -- Where a text meets a text, they become one.
   pub join-met : (u v : Forest) → meets isText u v ≡ true → Met u v
   unfolding join meet _⋈_ endsInText beginsWithText meets
   join-met nil v h = let z : _≡_ {A = ℕ} 0 1 = cc in absurd (omega arith)
   join-met (byte b u) v h = met-byte b (join-met u v h)
-  join-met (group l c nil) nil h = let e = both (isText l) false h .1 in let z : _≡_ {A = ℕ} 0 1 = cc in absurd (omega arith)
-  join-met (group l c nil) (byte b v) h = let e = both (isText l) false h .1 in let z : _≡_ {A = ℕ} 0 1 = cc in absurd (omega arith)
-  join-met (group l c nil) (group l′ c′ v) h = record { before = nil; label = l; text = c; label′ = l′; text′ = c′; later = v; left = refl; right = refl; isOne = both (isText l) (isText l′) h .0; isOther = both (isText l) (isText l′) h .1; joined = ap (λ (x : Bool). pick x (group l (c ⋈ c′) v) (group l c (group l′ c′ v))) h }
+  join-met (group l c nil) nil h =
+      let e = both (isText l) false h .1 in
+      let z : _≡_ {A = ℕ} 0 1 = cc in
+      absurd (omega arith)
+  join-met (group l c nil) (byte b v) h =
+      let e = both (isText l) false h .1 in
+      let z : _≡_ {A = ℕ} 0 1 = cc in
+      absurd (omega arith)
+  join-met (group l c nil) (group l′ c′ v) h =
+      record {
+        before = nil;
+        label = l;
+        text = c;
+        label′ = l′;
+        text′ = c′;
+        later = v;
+        left = refl;
+        right = refl;
+        isOne =
+            both (isText l) (isText l′) h .0;
+        isOther = both (isText l) (isText l′) h .1;
+        joined = ap (λ (x : Bool). pick x
+            (group l (c ⋈ c′) v) (group l c (group l′ c′ v))) h;
+      }
   join-met (group l c (byte b u)) v h = met-group l c refl (join-met (byte b u) v h)
   join-met (group l c (group l′ c′ u)) v h = met-group l c refl (join-met (group l′ c′ u) v h)
 
@@ -182,6 +260,7 @@ module _ (isText : Label → Bool) where
     apart : meets isText u v ≡ false → join isText u v ≡ u ⋈ v → Joining u v
     met : meets isText u v ≡ true → Met u v → Joining u v
 
+  -- One of the two holds.
   pub joining : (u v : Forest) → Joining u v
   joining u v = go (meets isText u v) refl
     where
@@ -211,10 +290,15 @@ module _ (isText : Label → Bool) where
   count-apart u v e = ap count (join-apart u v e) ∙ count-behind u v
 
   -- Where no text meets a text: the rows of the one, then those of the other, moved behind the one.
-  pub records-apart : (u v : Forest) (at n par : ℕ) → meets isText u v ≡ false → Foreign par n (count v) → records at n par (join isText u v) ≡ records at n par u ++ moved (width u) (count u) par par (records at n par v)
+  pub records-apart : (u v : Forest) (at n par : ℕ)
+      → meets isText u v ≡ false
+      → Foreign par n (count v)
+      → records at n par (join isText u v)
+      ≡ records at n par u ++ moved (width u) (count u) par par (records at n par v)
   records-apart u v at n par e o =
       ap (records at n par) (join-apart u v e) ∙ records-join u v at n par
-      ∙ ap (λ (t : List ℕ). records at n par u ++ t) (records-same v (omega arith) (omega arith) refl ∙ records-moved (width u) (count u) par par v at n o)
+      ∙ ap (λ (t : List ℕ). records at n par u ++ t)
+      (records-same v (omega arith) (omega arith) refl ∙ records-moved (width u) (count u) par par v at n o)
 
   -- The texts of a forest that stand in none of its groups have no nodes inside them.
   unfoldable pub Bare : Forest → Type 0
@@ -255,25 +339,43 @@ module _ (isText : Label → Bool) where
       count-text (h .label′) (h .text′) (h .later) (h .isOther),
     )
 
-    rows-met : {u v : Forest} (h : Met u v) (at n par : ℕ) → count (h .text) ≡ 0 → count (h .text′) ≡ 0 → Foreign par n (count v)
-        → records at n par (join isText u v) ≡ lastEnds (width u + firstEnd (records at n par v)) (records at n par u) ++ moved (width u) (count u - 1) par par (drop rowWords (records at n par v))
+    rows-met : {u v : Forest} (h : Met u v) (at n par : ℕ)
+        → count (h .text) ≡ 0
+        → count (h .text′) ≡ 0
+        → Foreign par n (count v)
+        → records at n par (join isText u v) ≡ lastEnds (width u + firstEnd (records at n par v)) (records at n par u)
+        ++ moved (width u) (count u - 1) par par (drop rowWords (records at n par v))
     unfolding one other
     rows-met {u} {v} h at n par z z′ o = go (text-node (h .label) (h .isOne)) (text-node (h .label′) (h .isOther))
       where
         Goal : Forest → Forest → Type 0
-        Goal u′ v′ = records at n par (join isText u v) ≡ lastEnds (width u′ + firstEnd (records at n par v′)) (records at n par u′) ++ moved (width u′) (count u′ - 1) par par (drop rowWords (records at n par v′))
+        Goal u′ v′ =
+            records at n par (join isText u v) ≡ lastEnds (width u′ + firstEnd (records at n par v′)) (records at n par
+            u′) ++ moved (width u′) (count u′ - 1) par par (drop rowWords (records at n par v′))
 
         go : (k : ℕ) × (x : ℕ) × (h .label ≡ node k x) → (k′ : ℕ) × (x′ : ℕ) × (h .label′ ≡ node k′ x′) → Goal u v
         go (k, x, e) (k′, x′, e′) =
-            let left : h .before ⋈ group (node k x) (h .text) nil ≡ u = sym (h .left ∙ ap (λ (l : Label). h .before ⋈ group l (h .text) nil) e) in
-            let right : group (node k′ x′) (h .text′) (h .later) ≡ v = sym (h .right ∙ ap (λ (l : Label). group l (h .text′) (h .later)) e′) in
-            subst (λ (w : Forest). Goal u w) right (subst (λ (w : Forest). Goal w (group (node k′ x′) (h .text′) (h .later))) left
-            (ap (records at n par) (h .joined ∙ ap (λ (l : Label). h .before ⋈ group l (h .text ⋈ h .text′) (h .later)) e)
-            ∙ merged (h .before) k x (h .text) k′ x′ (h .text′) (h .later) at n par z z′ (subst (λ (w : Forest). Foreign par n (count w)) (sym right) o)))
+            let left : h .before ⋈ group (node k x) (h .text) nil
+            ≡ u = sym (h .left ∙ ap (λ (l : Label). h .before ⋈ group l (h .text) nil) e) in
+            let right : group (node k′ x′) (h .text′) (h .later)
+            ≡ v = sym (h .right ∙ ap (λ (l : Label). group l (h .text′) (h .later)) e′) in
+            subst (λ (w : Forest). Goal u w) right
+            (subst (λ (w : Forest). Goal w (group (node k′ x′) (h .text′) (h .later))) left
+            (ap (records at n par)
+            (h .joined ∙ ap (λ (l : Label). h .before ⋈ group l (h .text ⋈ h .text′) (h .later)) e)
+            ∙ merged (h .before) k x (h .text) k′ x′ (h .text′) (h .later) at n par z z′
+            (subst (λ (w : Forest). Foreign par n (count w)) (sym right) o)))
 
-    -- Where a text meets a text, with no nodes inside them: the rows of the one, the last with the end of the other's first; then the other's but its first, moved behind.
-    pub records-met : (u v : Forest) (at n par : ℕ) → meets isText u v ≡ true → Bare u → Bare v → Foreign par n (count v)
-        → records at n par (join isText u v) ≡ lastEnds (width u + firstEnd (records at n par v)) (records at n par u) ++ moved (width u) (count u - 1) par par (drop rowWords (records at n par v))
+    -- Where a text meets a text, with no nodes inside them: the rows of the one, the last with the end of the other's
+    -- first; then the other's but its first, moved behind.
+    pub records-met : (u v : Forest) (at n par : ℕ)
+        → meets isText u v ≡ true
+        → Bare u
+        → Bare v
+        → Foreign par n (count v)
+        → records at n par (join isText u v) ≡ lastEnds (width u + firstEnd (records at n par v)) (records at n par u)
+        ++ moved (width u) (count u - 1) par par (drop rowWords (records at n par v))
     unfolding Bare
     records-met u v at n par e bu bv o = let h = join-met u v e in
-        rows-met h at n par (bare-last (h .before) (h .label) (h .text) nil (subst Bare (h .left) bu) (h .isOne)) (subst Bare (h .right) bv .0 (h .isOther)) o
+        rows-met h at n par (bare-last (h .before) (h .label) (h .text) nil (subst Bare (h .left) bu) (h .isOne))
+        (subst Bare (h .right) bv .0 (h .isOther)) o

@@ -12,26 +12,42 @@ use borrow.Author.Tests.{ltb-true, ltb-false, lt-ltb, le-ltb, eqb-true, eqb-fals
 use Rattle.rules.specs.Forest.{Label, node, content, Forest, nil, byte, group, _⋈_, width}
 use Rattle.rules.specs.Parse.{pick}
 use Rattle.rules.specs.Record.{rowWords, row, count, records}
-use Rattle.rules.proofs.Forests.{length-records}
+use Rattle.rules.proofs.Forests.{length-records, count-behind}
 use Rattle.rules.proofs.Formed.{Formed}
-use Rattle.rules.proofs.Spots.{Spot, here, under, past, skip, fill, start, fill-same}
-use Rattle.rules.proofs.Edited.{first, holder, Followed, count-fits}
+use Rattle.rules.proofs.Spots.{Spot, arrived, under, past, skip, fill, bytesBefore, fill-same}
+use Rattle.rules.proofs.Edited.{recordsBefore, holder, Followed, count-fits}
 use Rattle.rules.proofs.Held.{insideOf, placeOf, ContentOf, content-of}
 
 -- The label of the node with the number j, in a forest whose first record is n.
 unfoldable pub labelOf : (n j : ℕ) → Forest → Label
 labelOf n j nil = content 0
 labelOf n j (byte b u) = labelOf n j u
-labelOf n j (group (node k x) c u) = pick (eqb j n) (node k x) (pick (ltb j (n + (1 + count c))) (labelOf (n + 1) j c) (labelOf (n + (1 + count c)) j u))
+labelOf n j (group (node k x) c u) =
+    pick (eqb j n) (node k x)
+    (pick (ltb j (n + (1 + count c))) (labelOf (n + 1) j c) (labelOf (n + (1 + count c)) j u))
 labelOf n j (group (content d) c u) = pick (ltb j (n + count c)) (labelOf n j c) (labelOf (n + count c) j u)
+
+-- The parent of the node with the number j, in a forest under par whose first record is n.
+unfoldable pub parentOf : (n par j : ℕ) → Forest → ℕ
+parentOf n par j nil = par
+parentOf n par j (byte b u) = parentOf n par j u
+parentOf n par j (group (node k x) c u) =
+    pick (eqb j n) par
+    (pick (ltb j (n + (1 + count c))) (parentOf (n + 1) n j c) (parentOf (n + (1 + count c)) par j u))
+parentOf n par j (group (content d) c u) =
+    pick (ltb j (n + count c)) (parentOf n par j c) (parentOf (n + count c) par j u)
 
 -- The way to the node with the number j: it has the label l, t is inside it, and its first byte is at q.
 data Way (j : ℕ) (l : Label) (t : Forest) (q : ℕ) : (at n : ℕ) → Forest → Type 0 where
   self : {at n k x : ℕ} {c v : Forest} → j ≡ n → l ≡ node k x → t ≡ c → q ≡ at → Way j l t q at n (group (node k x) c v)
   inNode : {at n k x : ℕ} {c v : Forest} → Way j l t q at (n + 1) c → Way j l t q at n (group (node k x) c v)
-  pastNode : {at n k x : ℕ} {c v : Forest} → Way j l t q (at + width c) (n + (1 + count c)) v → Way j l t q at n (group (node k x) c v)
+  pastNode : {at n k x : ℕ} {c v : Forest}
+      → Way j l t q (at + width c) (n + (1 + count c)) v
+      → Way j l t q at n (group (node k x) c v)
   inContent : {at n d : ℕ} {c v : Forest} → Way j l t q at n c → Way j l t q at n (group (content d) c v)
-  pastContent : {at n d : ℕ} {c v : Forest} → Way j l t q (at + width c) (n + count c) v → Way j l t q at n (group (content d) c v)
+  pastContent : {at n d : ℕ} {c v : Forest}
+      → Way j l t q (at + width c) (n + count c) v
+      → Way j l t q at n (group (content d) c v)
   pastByte : {at n b : ℕ} {v : Forest} → Way j l t q (at + 1) n v → Way j l t q at n (byte b v)
 
 -- The node with the number j, found by labelOf, insideOf and placeOf.
@@ -43,7 +59,9 @@ found : (u : Forest) (at n j : ℕ) → n ≤ j → j < n + count u → Found at
 unfolding labelOf insideOf placeOf count
 found nil at n j l h = absurd (omega arith)
 found (byte b u) at n j l h = pastByte (found u (at + 1) n j l h)
-found (group (node k x) c u) at n j l h = go (eqb j n) refl (ltb j (n + (1 + count c))) refl (found c at (n + 1) j) (found u (at + width c) (n + (1 + count c)) j)
+found (group (node k x) c u) at n j l h =
+    go (eqb j n) refl (ltb j (n + (1 + count c))) refl (found c at (n + 1) j)
+    (found u (at + width c) (n + (1 + count c)) j)
   where
     go : (b : Bool) → eqb j n ≡ b → (b′ : Bool) → ltb j (n + (1 + count c)) ≡ b′
         → (n + 1 ≤ j → j < n + 1 + count c → Found at (n + 1) j c)
@@ -51,9 +69,11 @@ found (group (node k x) c u) at n j l h = go (eqb j n) refl (ltb j (n + (1 + cou
         → Found at n j (group (node k x) c u)
     go true e b′ e′ hc hu = rw e (self (eqb-true j n e) refl refl refl)
     go false e true e′ hc hu =
-        let q = eqb-false j n e in let r = ltb-true j (n + (1 + count c)) e′ in rw (e, e′) (inNode (hc (omega arith) (omega arith)))
+        let q = eqb-false j n e in
+        let r = ltb-true j (n + (1 + count c)) e′ in rw (e, e′) (inNode (hc (omega arith) (omega arith)))
     go false e false e′ hc hu = let r = ltb-false j (n + (1 + count c)) e′ in rw (e, e′) (pastNode (hu r (omega arith)))
-found (group (content d) c u) at n j l h = go (ltb j (n + count c)) refl (found c at n j l) (found u (at + width c) (n + count c) j)
+found (group (content d) c u) at n j l h =
+    go (ltb j (n + count c)) refl (found c at n j l) (found u (at + width c) (n + count c) j)
   where
     go : (b : Bool) → ltb j (n + count c) ≡ b → (j < n + count c → Found at n j c)
         → (n + count c ≤ j → j < n + count c + count u → Found (at + width c) (n + count c) j u)
@@ -73,7 +93,9 @@ module _ {j : ℕ} {l : Label} {t : Forest} {q : ℕ} where
   way-bounds (pastByte w) = way-bounds w
 
   -- And labelOf, insideOf and placeOf find what it leads to.
-  way-is : {at n : ℕ} {u : Forest} → Way j l t q at n u → (labelOf n j u ≡ l) × (insideOf n j u ≡ t) × (placeOf at n j u ≡ q)
+  way-is : {at n : ℕ} {u : Forest}
+      → Way j l t q at n u
+      → (labelOf n j u ≡ l) × (insideOf n j u ≡ t) × (placeOf at n j u ≡ q)
   unfolding labelOf insideOf placeOf
   way-is (self {n = n} e p s a) = rw (eq-eqb j n e) (sym p, sym s, sym a)
   way-is (inNode {n = n} {c = c} w) =
@@ -85,13 +107,72 @@ module _ {j : ℕ} {l : Label} {t : Forest} {q : ℕ} where
   way-is (pastByte w) = way-is w
 
   -- A way on from there, in what is inside the node, is a way.
-  way-on : {at n : ℕ} {u : Forest} {j′ : ℕ} {l′ : Label} {t′ : Forest} {q′ : ℕ} → Way j l t q at n u → Way j′ l′ t′ q′ q (j + 1) t → Way j′ l′ t′ q′ at n u
+  way-on : {at n : ℕ} {u : Forest} {j′ : ℕ} {l′ : Label} {t′ : Forest} {q′ : ℕ}
+      → Way j l t q at n u
+      → Way j′ l′ t′ q′ q (j + 1) t
+      → Way j′ l′ t′ q′ at n u
   way-on {j′ = j′} {l′} {t′} {q′} (self e p s a) w′ = inNode (subst₃ (Way j′ l′ t′ q′) a (ap (λ (m : ℕ). m + 1) e) s w′)
   way-on (inNode w) w′ = inNode (way-on w w′)
   way-on (pastNode w) w′ = pastNode (way-on w w′)
   way-on (inContent w) w′ = inContent (way-on w w′)
   way-on (pastContent w) w′ = pastContent (way-on w w′)
   way-on (pastByte w) w′ = pastByte (way-on w w′)
+
+  -- The parent of a node inside the node is found there.
+  way-parent : {at n : ℕ} {u : Forest} → Way j l t q at n u → (par j′ : ℕ) → j + 1 ≤ j′ → j′ < j + 1 + count t
+      → parentOf n par j′ u ≡ parentOf (j + 1) j j′ t
+  unfolding parentOf
+  way-parent (self {n = n} {c = c} e p s a) par j′ lo hi =
+      let z = ap count s in
+      rw (ne-eqb j′ n (omega arith), lt-ltb j′ (n + (1 + count c)) (omega arith))
+      (λ i. parentOf (sym e i + 1) (sym e i) j′ (sym s i))
+  way-parent (inNode {n = n} {c = c} w) par j′ lo hi =
+      let h = way-bounds w in
+      rw (ne-eqb j′ n (omega arith), lt-ltb j′ (n + (1 + count c)) (omega arith)) (way-parent w n j′ lo hi)
+  way-parent (pastNode {n = n} {c = c} w) par j′ lo hi =
+      let h = way-bounds w in
+      rw (ne-eqb j′ n (omega arith), le-ltb j′ (n + (1 + count c)) (omega arith)) (way-parent w par j′ lo hi)
+  way-parent (inContent {n = n} {c = c} w) par j′ lo hi =
+      let h = way-bounds w in rw (lt-ltb j′ (n + count c) (omega arith)) (way-parent w par j′ lo hi)
+  way-parent (pastContent {n = n} {c = c} w) par j′ lo hi =
+      let h = way-bounds w in rw (le-ltb j′ (n + count c) (omega arith)) (way-parent w par j′ lo hi)
+  way-parent (pastByte w) par j′ lo hi = way-parent w par j′ lo hi
+
+  -- A parent is the outermost one, or a record of the forest before the node.
+  way-ancestor : {at n : ℕ} {u : Forest} → Way j l t q at n u → (par : ℕ)
+      → (parentOf n par j u ≡ par) ⊎ ((n ≤ parentOf n par j u) × (parentOf n par j u < j))
+  unfolding parentOf
+  way-ancestor (self {n = n} e p s a) par = rw (eq-eqb j n e) (inl refl)
+  way-ancestor (inNode {n = n} {c = c} w) par =
+      let h = way-bounds w in
+      rw (ne-eqb j n (omega arith), lt-ltb j (n + (1 + count c)) (omega arith)) (inr (go (way-ancestor w n)))
+    where
+      go : (parentOf (n + 1) n j c ≡ n) ⊎ ((n + 1 ≤ parentOf (n + 1) n j c) × (parentOf (n + 1) n j c < j))
+          → (n ≤ parentOf (n + 1) n j c) × (parentOf (n + 1) n j c < j)
+      go (inl e) = let h = way-bounds w in (omega arith, omega arith)
+      go (inr e) = (omega arith, e .1)
+  way-ancestor (pastNode {n = n} {c = c} {v} w) par =
+      let h = way-bounds w in
+      rw (ne-eqb j n (omega arith), le-ltb j (n + (1 + count c)) (omega arith)) (go (way-ancestor w par))
+    where
+      go : (parentOf (n + (1 + count c)) par j v ≡ par)
+          ⊎ ((n + (1 + count c) ≤ parentOf (n + (1 + count c)) par j v) × (parentOf (n + (1 + count c)) par j v < j))
+          → (parentOf (n + (1 + count c)) par j v ≡ par)
+          ⊎ ((n ≤ parentOf (n + (1 + count c)) par j v) × (parentOf (n + (1 + count c)) par j v < j))
+      go (inl e) = inl e
+      go (inr e) = inr (omega arith, e .1)
+  way-ancestor (inContent {n = n} {c = c} w) par =
+      let h = way-bounds w in rw (lt-ltb j (n + count c) (omega arith)) (way-ancestor w par)
+  way-ancestor (pastContent {n = n} {c = c} {v} w) par =
+      let h = way-bounds w in rw (le-ltb j (n + count c) (omega arith)) (go (way-ancestor w par))
+    where
+      go : (parentOf (n + count c) par j v ≡ par)
+          ⊎ ((n + count c ≤ parentOf (n + count c) par j v) × (parentOf (n + count c) par j v < j))
+          → (parentOf (n + count c) par j v ≡ par)
+          ⊎ ((n ≤ parentOf (n + count c) par j v) × (parentOf (n + count c) par j v < j))
+      go (inl e) = inl e
+      go (inr e) = inr (omega arith, e .1)
+  way-ancestor (pastByte w) par = way-ancestor w par
 
   -- It leads to a node.
   way-label : {at n : ℕ} {u : Forest} → Way j l t q at n u → (k : ℕ) × (x : ℕ) × (l ≡ node k x)
@@ -112,20 +193,52 @@ module _ {j : ℕ} {l : Label} {t : Forest} {q : ℕ} where
   way-formed R (pastByte w) f = way-formed R w f
 
 -- The way to the node behind o.
-way-behind : (o v : Forest) (at n : ℕ) {k x : ℕ} {t : Forest} {j q : ℕ} → j ≡ n + count o → q ≡ at + width o → Way j (node k x) t q at n (o ⋈ group (node k x) t v)
+way-behind : (o v : Forest) (at n : ℕ) {k x : ℕ} {t : Forest} {j q : ℕ}
+    → j ≡ n + count o
+    → q ≡ at + width o
+    → Way j (node k x) t q at n (o ⋈ group (node k x) t v)
 unfolding _⋈_ count width
 way-behind nil v at n e a = self {at = at} {n = n} (omega arith) refl refl (omega arith)
 way-behind (byte b o) v at n e a = pastByte (way-behind o v (at + 1) n e (omega arith))
-way-behind (group (node k x) c o) v at n e a = pastNode (way-behind o v (at + width c) (n + (1 + count c)) (omega arith) (omega arith))
-way-behind (group (content d) c o) v at n e a = pastContent (way-behind o v (at + width c) (n + count c) (omega arith) (omega arith))
+way-behind (group (node k x) c o) v at n e a =
+    pastNode (way-behind o v (at + width c) (n + (1 + count c)) (omega arith) (omega arith))
+way-behind (group (content d) c o) v at n e a =
+    pastContent (way-behind o v (at + width c) (n + count c) (omega arith) (omega arith))
 
 -- What holds of every node, with what is inside it, holds of the node with the number j.
-pub formed-at : (R : Label → Forest → Type 0) (u : Forest) (n j : ℕ) → Formed R u → n ≤ j → j < n + count u → R (labelOf n j u) (insideOf n j u)
+pub formed-at : (R : Label → Forest → Type 0) (u : Forest) (n j : ℕ)
+    → Formed R u
+    → n ≤ j
+    → j < n + count u
+    → R (labelOf n j u) (insideOf n j u)
 formed-at R u n j f l h = way-formed R (found u 0 n j l h) f
 
 -- Every record is a node's: its label is no content.
 pub label-node : (u : Forest) (n j : ℕ) → n ≤ j → j < n + count u → (k : ℕ) × (x : ℕ) × (labelOf n j u ≡ node k x)
 label-node u n j l h = way-label (found u 0 n j l h)
+
+-- A record's parent is the outermost one, or a record before it.
+pub parent-known : (u : Forest) (n par j : ℕ) → n ≤ j → j < n + count u
+    → (parentOf n par j u ≡ par) ⊎ ((n ≤ parentOf n par j u) × (parentOf n par j u < j))
+parent-known u n par j l h = way-ancestor (found u 0 n j l h) par
+
+-- The parent of a record in the node with the number j is that node or a record in it.
+pub parent-inside : (u : Forest) (n par j j′ : ℕ)
+    → n ≤ j
+    → j < n + count u
+    → j + 1 ≤ j′
+    → j′ < j + 1 + count (insideOf n j u)
+    → (j ≤ parentOf n par j′ u) × (parentOf n par j′ u < j′)
+parent-inside u n par j j′ l h l′ h′ = go (way-ancestor (found (insideOf n j u) 0 (j + 1) j′ l′ h′) j)
+  where
+    same : parentOf n par j′ u ≡ parentOf (j + 1) j j′ (insideOf n j u)
+    same = way-parent (found u 0 n j l h) par j′ l′ h′
+
+    go : (parentOf (j + 1) j j′ (insideOf n j u) ≡ j)
+        ⊎ ((j + 1 ≤ parentOf (j + 1) j j′ (insideOf n j u)) × (parentOf (j + 1) j j′ (insideOf n j u) < j′))
+        → (j ≤ parentOf n par j′ u) × (parentOf n par j′ u < j′)
+    go (inl e) = (omega (arith, same), omega (arith, same))
+    go (inr e) = (omega (arith, same), omega (arith, same))
 
 -- The records in the node with the number j are records of the forest.
 pub inside-fits : (u : Forest) (n j : ℕ) → n ≤ j → j < n + count u → j + 1 + count (insideOf n j u) ≤ n + count u
@@ -134,81 +247,94 @@ inside-fits u n j l h = way-bounds (found u 0 n j l h) .1
 -- ---- the row of a node
 
 -- A table that has the row of the node with the number j, its first row being number n.
-record Cut (n j : ℕ) (l : Label) (t : Forest) (q : ℕ) (s : List ℕ) : Type 0 where
+record Cut (n j : ℕ) (l : Label) (t : Forest) (q parent : ℕ) (s : List ℕ) : Type 0 where
   before : List ℕ
   rest : List ℕ
   kind : ℕ
   extra : ℕ
-  parent : ℕ
   label : l ≡ node kind extra
   size : rowWords * n + length before ≡ rowWords * j
   split : s ≡ before ++ row kind q (q + width t) parent (j + (1 + count t)) extra rest
 
 module _ {j : ℕ} {l : Label} {t : Forest} {q : ℕ} where
   -- Rows behind it change nothing.
-  cut-more : {n : ℕ} {s : List ℕ} → Cut n j l t q s → (b : List ℕ) → Cut n j l t q (s ++ b)
+  cut-more : {n p : ℕ} {s : List ℕ} → Cut n j l t q p s → (b : List ℕ) → Cut n j l t q p (s ++ b)
   cut-more h b = record {
     before = h .before;
     rest = h .rest ++ b;
     kind = h .kind;
     extra = h .extra;
-    parent = h .parent;
     label = h .label;
     size = h .size;
     split = (λ i. h .split i ++ b) ∙ append-assoc (h .before) _ b;
   }
 
   -- Rows before it have the numbers before.
-  cut-further : {n n′ : ℕ} {s : List ℕ} → Cut n′ j l t q s → (a : List ℕ) → rowWords * n + length a ≡ rowWords * n′ → Cut n j l t q (a ++ s)
+  cut-further : {n n′ p : ℕ} {s : List ℕ} → Cut n′ j l t q p s → (a : List ℕ) → rowWords * n + length a ≡ rowWords * n′
+      → Cut n j l t q p (a ++ s)
   cut-further h a e = record {
     before = a ++ h .before;
     rest = h .rest;
     kind = h .kind;
     extra = h .extra;
-    parent = h .parent;
     label = h .label;
     size = simp length-append (omega (arith, h .size));
     split = (λ i. a ++ h .split i) ∙ sym (append-assoc a (h .before) _);
   }
 
   -- The table of a forest has the row of the node that a way leads to.
-  way-cut : {at n : ℕ} {u : Forest} → Way j l t q at n u → (par : ℕ) → Cut n j l t q (records at n par u)
-  unfolding records
-  way-cut (self {at} {n} {k} {x} {c} {v} e p s a) par = record {
+  way-cut : {at n : ℕ} {u : Forest}
+      → Way j l t q at n u
+      → (par : ℕ)
+      → Cut n j l t q (parentOf n par j u) (records at n par u)
+  unfolding records parentOf
+  way-cut (self {at} {n} {k} {x} {c} {v} e p s a) par = rw (eq-eqb j n e) (record {
     before = [];
     rest = records at (n + 1) n c ++ records (at + width c) (n + (1 + count c)) par v;
     kind = k;
     extra = x;
-    parent = par;
     label = p;
     size = omega arith;
-    split = λ i. row k (sym a i) (sym a i + width (sym s i)) par (sym e i + (1 + count (sym s i))) x (records at (n + 1) n c ++ records (at + width c) (n + (1 + count c)) par v);
-  }
+    split = λ i. row k (sym a i) (sym a i + width (sym s i)) par (sym e i + (1 + count (sym s i))) x
+        (records at (n + 1) n c ++ records (at + width c) (n + (1 + count c)) par v);
+  })
   way-cut (inNode {at} {n} {k} {x} {c} {v} w) par =
-      cut-further (cut-more (way-cut w n) (records (at + width c) (n + (1 + count c)) par v)) (row k at (at + width c) par (n + (1 + count c)) x []) (omega arith)
+      let h = way-bounds w in
+      rw (ne-eqb j n (omega arith), lt-ltb j (n + (1 + count c)) (omega arith))
+      (cut-further (cut-more (way-cut w n) (records (at + width c) (n + (1 + count c)) par v))
+      (row k at (at + width c) par (n + (1 + count c)) x []) (omega arith))
   way-cut (pastNode {at} {n} {k} {x} {c} {v} w) par =
+      let h = way-bounds w in
       let z = length-records c at (n + 1) n in
-      cut-further (way-cut w par) (row k at (at + width c) par (n + (1 + count c)) x (records at (n + 1) n c)) (omega arith)
-  way-cut (inContent {at} {n} {d} {c} {v} w) par = cut-more (way-cut w par) (records (at + width c) (n + count c) par v)
-  way-cut (pastContent {at} {n} {d} {c} {v} w) par = let z = length-records c at n par in cut-further (way-cut w par) (records at n par c) (omega arith)
+      rw (ne-eqb j n (omega arith), le-ltb j (n + (1 + count c)) (omega arith))
+      (cut-further (way-cut w par) (row k at (at + width c) par (n + (1 + count c)) x (records at (n + 1) n c))
+      (omega arith))
+  way-cut (inContent {at} {n} {d} {c} {v} w) par =
+      let h = way-bounds w in
+      rw (lt-ltb j (n + count c) (omega arith)) (cut-more (way-cut w par) (records (at + width c) (n + count c) par v))
+  way-cut (pastContent {at} {n} {d} {c} {v} w) par =
+      let h = way-bounds w in
+      let z = length-records c at n par in
+      rw (le-ltb j (n + count c) (omega arith)) (cut-further (way-cut w par) (records at n par c) (omega arith))
   way-cut (pastByte w) par = way-cut w par
 
 -- Past one list a list begins anew.
 getD-past : (p s : List ℕ) {m : ℕ} (i : ℕ) → length p ≡ m → getD (p ++ s) (m + i) 0 ≡ getD s i 0
 getD-past p s i e = rw (← e) (getD-append-add p s i 0)
 
--- The row number m of the table of u, whose record has the number j: the node's kind, place, end, parent, the first number past its records, and its extra word.
+-- The row number m of the table of u, whose record has the number j: the node's kind, place, end, parent, the first
+-- number past its records, and its extra word.
 pub record RowOf (u : Forest) (at n par m j : ℕ) : Type 0 where
   pub kind : ℕ
   pub extra : ℕ
-  pub parent : ℕ
   pub label : labelOf n j u ≡ node kind extra
   pub whole : take rowWords (drop (rowWords * m) (records at n par u))
-      ≡ row kind (placeOf at n j u) (placeOf at n j u + width (insideOf n j u)) parent (j + (1 + count (insideOf n j u))) extra []
+      ≡ row kind (placeOf at n j u) (placeOf at n j u + width (insideOf n j u)) (parentOf n par j u)
+      (j + (1 + count (insideOf n j u))) extra []
   pub kind-word : getD (records at n par u) (rowWords * m) 0 ≡ kind
   pub start-word : getD (records at n par u) (rowWords * m + 1) 0 ≡ placeOf at n j u
   pub end-word : getD (records at n par u) (rowWords * m + 2) 0 ≡ placeOf at n j u + width (insideOf n j u)
-  pub parent-word : getD (records at n par u) (rowWords * m + 3) 0 ≡ parent
+  pub parent-word : getD (records at n par u) (rowWords * m + 3) 0 ≡ parentOf n par j u
   pub after-word : getD (records at n par u) (rowWords * m + 4) 0 ≡ j + (1 + count (insideOf n j u))
   pub extra-word : getD (records at n par u) (rowWords * m + 5) 0 ≡ extra
 
@@ -217,9 +343,10 @@ pub row-of : (u : Forest) (at n par m j : ℕ) → j ≡ n + m → m < count u �
 row-of u at n par m j e h = record {
   kind = c .kind;
   extra = c .extra;
-  parent = c .parent;
   label = c .label;
-  whole = (λ i. take rowWords (drop (rowWords * m) (c .split i))) ∙ ap (take rowWords) (drop-at (c .before) _ (rowWords * m) long);
+  whole =
+      (λ i. take rowWords (drop (rowWords * m) (c .split i)))
+      ∙ ap (take rowWords) (drop-at (c .before) _ (rowWords * m) long);
   kind-word = ap (λ (s : List ℕ). getD s (rowWords * m) 0) (c .split) ∙ getD-at (c .before) _ _ 0 (rowWords * m) long;
   start-word = word 1;
   end-word = word 2;
@@ -228,14 +355,17 @@ row-of u at n par m j e h = record {
   extra-word = word 5;
 }
   where
-    c : Cut n j (labelOf n j u) (insideOf n j u) (placeOf at n j u) (records at n par u)
+    c : Cut n j (labelOf n j u) (insideOf n j u) (placeOf at n j u) (parentOf n par j u) (records at n par u)
     c = way-cut (found u at n j (omega arith) (omega arith)) par
 
     long : length (c .before) ≡ rowWords * m
     long = omega (arith, c .size)
 
     word : (i : ℕ) → getD (records at n par u) (rowWords * m + i) 0
-        ≡ getD (row (c .kind) (placeOf at n j u) (placeOf at n j u + width (insideOf n j u)) (c .parent) (j + (1 + count (insideOf n j u))) (c .extra) (c .rest)) i 0
+        ≡ getD
+        (row (c .kind) (placeOf at n j u) (placeOf at n j u + width (insideOf n j u)) (parentOf n par j u)
+        (j + (1 + count (insideOf n j u))) (c .extra) (c .rest))
+        i 0
     word i = ap (λ (s : List ℕ). getD s (rowWords * m + i) 0) (c .split) ∙ getD-past (c .before) _ i long
 
 -- ---- the nodes in a node
@@ -249,28 +379,74 @@ pub record NodeIs (u : Forest) (at n j′ : ℕ) (l : Label) (t : Forest) (q : �
   pub place : placeOf at n j′ u ≡ q
 
 way-node : {u : Forest} {at n j : ℕ} {l : Label} {t : Forest} {q : ℕ} → Way j l t q at n u → NodeIs u at n j l t q
-way-node w = let b = way-bounds w in let h = way-is w in record { from = b .0; known = omega arith; label = h .0; inner = h .1; place = h .2 }
+way-node w =
+    let b = way-bounds w in
+    let h = way-is w in record { from = b .0; known = omega arith; label = h .0; inner = h .1; place = h .2 }
+
+-- The node behind o.
+pub node-behind : (o v : Forest) (at n k x : ℕ) (t : Forest) {j : ℕ} → j ≡ n + count o
+    → NodeIs (o ⋈ group (node k x) t v) at n j (node k x) t (at + width o)
+node-behind o v at n k x t e = way-node (way-behind o v at n e refl)
 
 -- A node of what is inside the node with the number j is a node of the forest, with the same number and place.
-pub node-inside : (u : Forest) (at n j j′ : ℕ) → n ≤ j → j < n + count u → j + 1 ≤ j′ → j′ < j + 1 + count (insideOf n j u)
-    → NodeIs u at n j′ (labelOf (j + 1) j′ (insideOf n j u)) (insideOf (j + 1) j′ (insideOf n j u)) (placeOf (placeOf at n j u) (j + 1) j′ (insideOf n j u))
-node-inside u at n j j′ l h l′ h′ = way-node (way-on (found u at n j l h) (found (insideOf n j u) (placeOf at n j u) (j + 1) j′ l′ h′))
+pub node-inside : (u : Forest) (at n j j′ : ℕ)
+    → n ≤ j
+    → j < n + count u
+    → j + 1 ≤ j′
+    → j′ < j + 1 + count (insideOf n j u)
+    → NodeIs u at n j′ (labelOf (j + 1) j′ (insideOf n j u)) (insideOf (j + 1) j′ (insideOf n j u))
+    (placeOf (placeOf at n j u) (j + 1) j′ (insideOf n j u))
+node-inside u at n j j′ l h l′ h′ =
+    way-node (way-on (found u at n j l h) (found (insideOf n j u) (placeOf at n j u) (j + 1) j′ l′ h′))
 
 -- The node behind o in the node with the number j: its number is past those of o, its place where o ends.
 pub child-behind : (u : Forest) (at n j : ℕ) (o : Forest) (k x : ℕ) (t v : Forest) → n ≤ j → j < n + count u
-    → insideOf n j u ≡ o ⋈ group (node k x) t v → NodeIs u at n (j + 1 + count o) (node k x) t (placeOf at n j u + width o)
+    → insideOf n j u ≡ o ⋈ group (node k x) t v → NodeIs u at n (j + 1 + count o) (node k x) t
+    (placeOf at n j u + width o)
 child-behind u at n j o k x t v l h e =
-    way-node (way-on (found u at n j l h) (subst (Way (j + 1 + count o) (node k x) t (placeOf at n j u + width o) (placeOf at n j u) (j + 1)) (sym e) (way-behind o v (placeOf at n j u) (j + 1) refl refl)))
+    way-node
+    (way-on (found u at n j l h)
+    (subst (Way (j + 1 + count o) (node k x) t (placeOf at n j u + width o) (placeOf at n j u) (j + 1)) (sym e)
+    (way-behind o v (placeOf at n j u) (j + 1) refl refl)))
+
+-- A node that stands in none of a forest's groups has the forest's parent;
+pub parent-outermost : (o : Forest) (k x : ℕ) (t v : Forest) (n par : ℕ) {j : ℕ} → j ≡ n + count o
+    → parentOf n par j (o ⋈ group (node k x) t v) ≡ par
+unfolding parentOf _⋈_ count
+parent-outermost nil k x t v n par {j} e = rw (eq-eqb j n (omega arith))
+parent-outermost (byte b o) k x t v n par e = parent-outermost o k x t v n par e
+parent-outermost (group (node k′ x′) c o) k x t v n par {j} e =
+    rw (ne-eqb j n (omega arith), le-ltb j (n + (1 + count c)) (omega arith))
+    (parent-outermost o k x t v (n + (1 + count c)) par (omega arith))
+parent-outermost (group (content d) c o) k x t v n par {j} e =
+    rw (le-ltb j (n + count c) (omega arith)) (parent-outermost o k x t v (n + count c) par (omega arith))
+
+-- so the node behind o in the node with the number j has that number for parent.
+pub child-parent : (u : Forest) (n par j : ℕ) (o : Forest) (k x : ℕ) (t v : Forest) → n ≤ j → j < n + count u
+    → insideOf n j u ≡ o ⋈ group (node k x) t v → parentOf n par (j + 1 + count o) u ≡ j
+unfolding count
+child-parent u n par j o k x t v l h e =
+    let m = ap count e in
+    let f = count-behind o (group (node k x) t v) in
+    way-parent (found u 0 n j l h) par (j + 1 + count o) (omega arith) (omega arith)
+    ∙ ap (parentOf (j + 1) j (j + 1 + count o)) e
+    ∙ parent-outermost o k x t v (j + 1) j refl
 
 -- The first child: the next number, the same place.
 pub first-child : (u : Forest) (at n j k x : ℕ) (t v : Forest) → n ≤ j → j < n + count u
     → insideOf n j u ≡ group (node k x) t v → NodeIs u at n (j + 1) (node k x) t (placeOf at n j u)
 first-child u at n j k x t v l h e =
-    way-node (way-on (found u at n j l h) (subst (Way (j + 1) (node k x) t (placeOf at n j u) (placeOf at n j u) (j + 1)) (sym e) (self refl refl refl refl)))
+    way-node
+    (way-on (found u at n j l h)
+    (subst (Way (j + 1) (node k x) t (placeOf at n j u) (placeOf at n j u) (j + 1)) (sym e) (self refl refl refl refl)))
 
 -- A node with a content inside is a record of the forest, and so are the records in front of the content and in it.
-pub content-known : (d : ℕ) (c₀ u : Forest) (n j : ℕ) (o r : Forest) → n ≤ j → insideOf n j u ≡ o ⋈ group (content d) c₀ r → j + 1 + count o + count c₀ ≤ n + count u
-content-known d c₀ u n j o r l e = let h = content-of d c₀ u n 0 j o r l e in omega (arith, h .since, count-fits (h .spot))
+pub content-known : (d : ℕ) (c₀ u : Forest) (n j : ℕ) (o r : Forest)
+    → n ≤ j
+    → insideOf n j u ≡ o ⋈ group (content d) c₀ r
+    → j + 1 + count o + count c₀ ≤ n + count u
+content-known d c₀ u n j o r l e =
+    let h = content-of d c₀ u n 0 j o r l e in omega (arith, h .since, count-fits (h .spot))
 
 -- ---- the node that a spot stands in
 
@@ -291,14 +467,14 @@ BareContents (group (content d) c u) = Bare c × BareContents c × BareContents 
 module _ {d : ℕ} {c₀ : Forest} where
   -- The content stands in no group of the forest.
   unfoldable pub Outermost : {u : Forest} → Spot d c₀ u → Type 0
-  Outermost (here p q) = Unit {0}
+  Outermost (arrived p q) = Unit {0}
   Outermost (under ω) = ⊥
   Outermost (past ω) = Outermost ω
   Outermost (skip ω) = Outermost ω
 
   -- The content stands in a node, and in no other group inside that node.
   unfoldable pub InNode : {u : Forest} → Spot d c₀ u → Type 0
-  InNode (here p q) = ⊥
+  InNode (arrived p q) = ⊥
   InNode (under {l = node k x} ω) = Outermost ω ⊎ InNode ω
   InNode (under {l = content d′} ω) = InNode ω
   InNode (past ω) = InNode ω
@@ -307,8 +483,8 @@ module _ {d : ℕ} {c₀ : Forest} where
   -- In a bare forest no content is outermost.
   bare-not-outermost : {u : Forest} (ω : Spot d c₀ u) → Bare u → Outermost ω → ⊥
   unfolding Outermost
-  bare-not-outermost (here {l = node k x} p q) b s = let z : _≡_ {A = ℕ} 0 1 = cc in omega arith
-  bare-not-outermost (here {l = content d′} p q) b s = b
+  bare-not-outermost (arrived {l = node k x} p q) b s = let z : _≡_ {A = ℕ} 0 1 = cc in omega arith
+  bare-not-outermost (arrived {l = content d′} p q) b s = b
   bare-not-outermost (under ω) b s = s
   bare-not-outermost (past {l = node k x} ω) b s = bare-not-outermost ω b s
   bare-not-outermost (past {l = content d′} ω) b s = b
@@ -322,7 +498,7 @@ module _ {d : ℕ} {c₀ : Forest} where
   -- Where contents are bare, it is one or the other.
   outermost-or-in-node : {u : Forest} (ω : Spot d c₀ u) → BareContents u → Outermost ω ⊎ InNode ω
   unfolding Outermost InNode
-  outermost-or-in-node (here p q) b = inl tt
+  outermost-or-in-node (arrived p q) b = inl tt
   outermost-or-in-node (under {l = node k x} ω) b = inr (outermost-or-in-node ω (b .0))
   outermost-or-in-node (under {l = content d′} ω) b = inr (bare-in-node ω (b .0) (outermost-or-in-node ω (b .1)))
   outermost-or-in-node (past {l = node k x} ω) b = outermost-or-in-node ω (b .1)
@@ -340,13 +516,23 @@ module _ {d : ℕ} {c₀ : Forest} where
     filled : (v : Forest) → fill ω v ≡ o ⋈ group (content d) v r
     parent : (n par : ℕ) → holder n par ω ≡ par
     follows : 1 ≤ count r → Followed ω
-    since : first ω ≡ count o
-    begins : start ω ≡ width o
+    since : recordsBefore ω ≡ count o
+    begins : bytesBefore ω ≡ width o
 
   -- An outermost content stands between two forests.
   between : {u : Forest} (ω : Spot d c₀ u) → Outermost ω → Between ω
-  unfolding Outermost fill holder Followed first start count width _⋈_
-  between (here {v = v} p q) s = record { o = nil; r = v; filled = λ w. ap (λ (l : Label). group l w v) p; parent = λ n par. refl; follows = λ h. h; since = refl; begins = refl }
+  unfolding Outermost fill holder Followed recordsBefore bytesBefore count width _⋈_
+  between (arrived {v = v} p q) s =
+      record {
+        o = nil;
+        r = v;
+        filled = λ w. ap (λ (l : Label). group l w
+            v) p;
+        parent = λ n par. refl;
+        follows = λ h. h;
+        since = refl;
+        begins = refl;
+      }
   between (under ω) s = absurd s
   between (past {l = node k x} {c = c} ω) s = let h = between ω s in record {
     o = group (node k x) c (h .o);
@@ -384,13 +570,13 @@ module _ {d : ℕ} {c₀ : Forest} where
     place : ℕ → ℕ
     way : (at : ℕ) (v : Forest) → Way (holder n par ω) label (o ⋈ group (content d) v r) (place at) at n (fill ω v)
     follows : 1 ≤ count r → Followed ω
-    since : n + first ω ≡ holder n par ω + 1 + count o
-    begins : (at : ℕ) → at + start ω ≡ place at + width o
+    since : n + recordsBefore ω ≡ holder n par ω + 1 + count o
+    begins : (at : ℕ) → at + bytesBefore ω ≡ place at + width o
 
   -- So it is for every content in a node.
   stands-in : {u : Forest} (ω : Spot d c₀ u) (n par : ℕ) → InNode ω → StandsIn ω n par
-  unfolding InNode fill holder Followed first start
-  stands-in (here p q) n par s = absurd s
+  unfolding InNode fill holder Followed recordsBefore bytesBefore
+  stands-in (arrived p q) n par s = absurd s
   stands-in (under {l = node k x} {v = v} ω) n par s = go s (stands-in ω (n + 1) n)
     where
       go : Outermost ω ⊎ InNode ω → (InNode ω → StandsIn ω (n + 1) n) → StandsIn (under {l = node k x} {v = v} ω) n par

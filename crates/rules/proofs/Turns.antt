@@ -13,8 +13,9 @@ use Rattle.rules.specs.Rule.{Rule, many}
 use Rattle.rules.specs.Parse.{Answer, got, trouble, behind, repeat, parse, parsed}
 use Rattle.rules.proofs.Ends.{top-got, turn-more, turn-last, turn-no, turn-stuck}
 
--- With more turns than bytes are left, the number of turns does not matter.
-module _ (l : ℕ) (body : ℕ → Answer) (top : (at : ℕ) (o : Forest) (p : ℕ) → at ≤ l → body at ≡ got true o p → p ≤ l) where
+module _ (l : ℕ) (body : ℕ → Answer)
+    (top : (at : ℕ) (o : Forest) (p : ℕ) → at ≤ l → body at ≡ got true o p → p ≤ l) where
+  -- With more turns than bytes are left, the number of turns does not matter.
   pub enough : (f g at : ℕ) → at ≤ l → l < f + at → l < g + at → repeat body f at ≡ repeat body g at
   enough zero g at i h k = absurd (omega arith)
   enough (suc f) zero at i h k = absurd (omega arith)
