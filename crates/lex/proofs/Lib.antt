@@ -1,5 +1,10 @@
--- What the proofs of several leaves use.
+-- Answers, bytes and tests: what every leaf's proof uses.
 pub mod Laws
-pub mod Bare
-pub mod SameBytes
+-- A loop of code that reads `many t`, turn by turn.
 pub mod Turns
+-- Rules that make no group: what they read are the input's bytes.
+pub mod Bare
+-- Lists of bytes compared, and the loop that does it.
+pub mod SameBytes
+-- What the needs of this crate's functions follow from.
+pub mod Steps

@@ -12,7 +12,8 @@ use Rattle.rules.proofs.Forests.{behind-nil}
 use Rattle.rules.proofs.Run.{behind-none, behind-behind}
 use Rattle.rules.proofs.Turns.{many-more, many-last, many-no}
 
--- The loop `many t` from `from` on, with the mark e, has come to p: what is left is the same loop, behind what was read.
+-- The loop `many t` from `from` on, with the mark e, has come to p:
+-- what is left is the same loop, behind what was read.
 pub record Turns (s : List ℕ) (t : Rule) (e from p : ℕ) : Type 0 where
   pub past : from ≤ p
   pub inside : p ≤ length s
@@ -25,12 +26,17 @@ turns-begin s t e at h = record { past = omega arith; inside = h; acc = nil; so 
 
 module _ {s : List ℕ} {t : Rule} {e from p : ℕ} (l : Turns s t e from p) where
   -- One more turn, which goes on.
-  abbrev pub turns-more : {o : Forest} {q : ℕ} → parsed s t e p ≡ got true o q → p < q → q ≤ length s → Turns s t e from q
+  abbrev pub turns-more : {o : Forest} {q : ℕ}
+      → parsed s t e p ≡ got true o q
+      → p < q
+      → q ≤ length s
+      → Turns s t e from q
   turns-more {o} {q} b k i = record {
     past = omega (arith, l .past);
     inside = i;
     acc = l .acc ⋈ o;
-    so = l .so ∙ ap (behind (l .acc)) (many-more s t e p b k (l .inside)) ∙ behind-behind (l .acc) o (parsed s (many t) e q);
+    so = l .so ∙ ap (behind (l .acc)) (many-more s t e p b k (l .inside))
+        ∙ behind-behind (l .acc) o (parsed s (many t) e q);
   }
 
   -- The last turn, which reads nothing.

@@ -23,11 +23,17 @@ pub enum Ans {
     No(u32, usize, usize, usize, usize),
 }
 
+fn wide(b: u8) -> u32
+    ensures { λ r. ⌜ r ≡ b ⌝ }
+{
+    b as u32
+}
+
 // The byte at a place, 256 at the end.
 pub fn byte(s: &[u8], at: usize) -> u32
     ensures { λ r. ⌜ r ≡ byteAt (now (s .entry)) at ⌝ }
 {
-    if at < s.len() { s[at] as u32 } else { END }
+    if at < s.len() { wide(s[at]) } else { END }
 }
 
 // Something is needed here and does not begin here: 4 at the end, 3 elsewhere. (The Rust's `unexpected`.)
