@@ -1,28 +1,23 @@
 // Blanks and comments. Chapter 'Bytes, blanks, comments' of document 01.
 ghost use mathlib.Core.Path.{_≡_};
 ghost use mathlib.Core.Bool.{true};
-ghost use mathlib.Core.List.{[], _∷_};
 ghost use Prim.Native.Nat.{_+_, _<_, _≤_};
 ghost use lib.ListN.{length};
 ghost use Rattle.rules.specs.Parse.{pick, opens};
-ghost use Rattle.jsx.specs.Byte.{end, lineEnd, _or_};
+ghost use Rattle.jsx.specs.Byte.{bytesOf, end, lineEnd, _or_};
 ghost use Rattle.jsx.specs.Blank.{blankByte, comment, lineComment, blanks, pass as passRule};
 ghost use Rattle.lex.specs.Contract.{Leaf, nothing};
-
-const TAB: u32 = b'\t' as u32;
-
-const LF: u32 = b'\n' as u32;
-
-const CR: u32 = b'\r' as u32;
-
-const SPACE: u32 = b' ' as u32;
-
-const SLASH: u32 = b'/' as u32;
-
-const STAR: u32 = b'*' as u32;
-
-// What `lex::byte` gives at the end.
-const END: u32 = 256;
+ghost use Rattle.blank.specs.Run.{BlankRun};
+use lex::Ans;
+use lex::bytes::CR;
+use lex::bytes::END;
+use lex::bytes::LF;
+use lex::bytes::SLASH;
+use lex::bytes::SPACE;
+use lex::bytes::STAR;
+use lex::bytes::TAB;
+use lex::refusal::NEVER_CLOSED;
+use lex::refusal::UNEXPECTED;
 
 // Tab, LF, VT, FF, CR (9 to 13) or space.
 pub fn is_blank(b: u32) -> bool
@@ -44,59 +39,60 @@ fn ends_line(b: u32) -> bool
     }
 }
 
-// Past the `/* .. */` that begins here; 5 at its first byte where it is never closed.
-pub fn skip_comment(s: &[u8], at: usize) -> lex::Ans
+// Past the `/* .. */` that begins here; 5 at its first byte where it is never closed. The number is 0.
+pub fn skip_comment(s: &[u8], at: usize) -> Ans
     requires { ⌜ at + 2 ≤ length (now s) ⌝ }
     ensures { λ r. ⌜ Leaf nothing r (now (s .entry)) comment at 4 ⌝ }
 {
     let mut p = at + 2; // behind `/*`
-    loop {
-        let b = lex::byte(s, p);
-        if b == END {
-            return lex::Ans::No(5, at, at, 0, 0);
-        }
-        if b == STAR && lex::byte(s, p + 1) == SLASH {
-            return lex::Ans::Got(p + 2, 0);
+    while lex::byte(s, p) != END {
+        if lex::two_at(s, p, STAR, SLASH) {
+            return Ans::Got(p + 2, 0);
         }
         p = p + 1;
     }
+    Ans::No(NEVER_CLOSED, at, at, 0, 0)
 }
 
-// Whether the two bytes behind the E2 of U+2028 or of U+2029 stand here.
+// Whether U+2028 or U+2029 stands here: E2 80 A8 or E2 80 A9.
 fn separates(s: &[u8], at: usize) -> bool
     requires { ⌜ at ≤ length (now s) ⌝ }
-    ensures { λ r. ⌜ r ≡ pick (opens (now (s .entry)) (0x80 ∷ 0xA8 ∷ []) at) true (opens (now (s .entry)) (0x80 ∷ 0xA9 ∷ []) at) ⌝ }
+    ensures { λ r. ⌜ r ≡ pick (opens (now (s .entry)) (bytesOf "\u{2028}") at) true
+        (opens (now (s .entry)) (bytesOf "\u{2029}") at) ⌝ }
 {
-    if lex::byte(s, at) != 0x80 {
-        return false;
-    }
-    let b = lex::byte(s, at + 1);
-    if b == 0xA8 {
-        return true;
-    }
-    b == 0xA9
+    lex::three_at(s, at, 0xE2, 0x80, 0xA8) || lex::three_at(s, at, 0xE2, 0x80, 0xA9)
 }
 
-// Past the `//` that begins here, up to LF, CR or the end; 3 at a U+2028 or U+2029 (E2 80 A8, E2 80 A9) in it.
-pub fn skip_line_comment(s: &[u8], at: usize) -> lex::Ans
+// Past the `//` that begins here, up to LF, CR or the end; 3 at a U+2028 or U+2029 in it. The number is 0.
+pub fn skip_line_comment(s: &[u8], at: usize) -> Ans
     requires { ⌜ at + 2 ≤ length (now s) ⌝ }
     ensures { λ r. ⌜ Leaf nothing r (now (s .entry)) lineComment at 2 ⌝ }
 {
     let mut p = at + 2; // behind `//`
-    loop {
-        let b = lex::byte(s, p);
-        if ends_line(b) {
-            return lex::Ans::Got(p, 0);
-        }
-        if b == 0xE2 && separates(s, p + 1) {
-            return lex::Ans::No(3, p, p, 0, 0);
+    while !ends_line(lex::byte(s, p)) {
+        if separates(s, p) {
+            return Ans::No(UNEXPECTED, p, p, 0, 0);
         }
         p = p + 1;
     }
+    Ans::Got(p, 0)
 }
 
-// Past every blank and comment from here on.
-pub fn skip_blanks(s: &[u8], at: usize) -> lex::Ans
+// Past the blank bytes from here on: where they end.
+pub fn past_blanks(s: &[u8], at: usize) -> usize
+    requires { ⌜ at ≤ length (now s) ⌝ }
+    ensures { λ r. ⌜ BlankRun r (now (s .entry)) at ⌝ }
+{
+    let mut p = at;
+    while is_blank(lex::byte(s, p)) {
+        p = p + 1;
+    }
+    p
+}
+
+// Past every blank and comment from here on, one by one; the number is 0.
+// It is called at two places, so that the compiler leaves it out of line.
+fn skip_blanks_and_comments(s: &[u8], at: usize) -> Ans
     requires { ⌜ at ≤ length (now s) ⌝ }
     ensures { λ r. ⌜ Leaf nothing r (now (s .entry)) blanks at 0 ⌝ }
 {
@@ -108,30 +104,50 @@ pub fn skip_blanks(s: &[u8], at: usize) -> lex::Ans
             continue;
         }
         if b != SLASH {
-            return lex::Ans::Got(p, 0);
+            return Ans::Got(p, 0);
         }
         let c = lex::byte(s, p + 1);
         if c == STAR {
             let r = skip_comment(s, p);
-            let lex::Ans::Got(q, _) = r else {
+            let Ans::Got(q, _) = r else {
                 return r;
             };
             p = q;
             continue;
         }
         if c != SLASH {
-            return lex::Ans::Got(p, 0);
+            return Ans::Got(p, 0);
         }
         let r = skip_line_comment(s, p);
-        let lex::Ans::Got(q, _) = r else {
+        let Ans::Got(q, _) = r else {
             return r;
         };
         p = q;
     }
 }
 
-// Past the byte here and the blanks behind it.
-pub fn pass(s: &[u8], at: usize) -> lex::Ans
+// Past every blank and comment from here on; the number is 0. Most calls meet no comment, and many no blank: the loop
+// over both is called only at a `/`, so that this function is small enough to stand in its callers.
+pub fn skip_blanks(s: &[u8], at: usize) -> Ans
+    requires { ⌜ at ≤ length (now s) ⌝ }
+    ensures { λ r. ⌜ Leaf nothing r (now (s .entry)) blanks at 0 ⌝ }
+{
+    let b = lex::byte(s, at);
+    if is_blank(b) {
+        let q = past_blanks(s, at + 1);
+        if lex::byte(s, q) != SLASH {
+            return Ans::Got(q, 0);
+        }
+        return skip_blanks_and_comments(s, q);
+    }
+    if b != SLASH {
+        return Ans::Got(at, 0);
+    }
+    skip_blanks_and_comments(s, at)
+}
+
+// Past the byte here and the blanks behind it; the number is 0.
+pub fn pass(s: &[u8], at: usize) -> Ans
     requires { ⌜ at < length (now s) ⌝ }
     ensures { λ r. ⌜ Leaf nothing r (now (s .entry)) passRule at 1 ⌝ }
 {
