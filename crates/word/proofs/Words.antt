@@ -14,19 +14,22 @@ use Rattle.jsx.specs.Name.{same}
 use Rattle.jsx.specs.Word.{onFirst, cut, words, among, reserved, spared, strict, refusedWord}
 use Rattle.lex.proofs.SameBytes.{length-part}
 use Rattle.lex.specs.Contract.{bytesFrom}
-use Rattle.word.specs.Table.{cells, each, upTo, row, known, sound, complete, good}
+use Rattle.word.specs.Table.{cells, each, upTo, wordsOf, covered, sound, complete, good}
 
 -- ---- a word among some of its length
 
 module _ (t w : List ℕ) {E : Bool} (p n c i : ℕ) (e : E ≡ among (cells t p n (c - i)) w) where
+  -- Another word.
   pub among-more : i < c → same (bytesFrom t p n) w ≡ false → E ≡ among (cells t (p + n + 1) n (c - (i + 1))) w
   unfolding among cells
   among-more h f = let j : c - i ≡ suc (c - (i + 1)) = omega arith in simp (j, f) at e
 
+  -- This word.
   pub among-found : i < c → same (bytesFrom t p n) w ≡ true → E ≡ true
   unfolding among cells
   among-found h f = let j : c - i ≡ suc (c - (i + 1)) = omega arith in simp (j, f) at e
 
+  -- None is left.
   pub among-end : c ≤ i → E ≡ false
   unfolding among cells
   among-end h = let j : c - i ≡ 0 = omega arith in simp j at e
@@ -59,7 +62,8 @@ up-at P (suc k) n h i = go (up-at P k n (both (P k) (upTo P k) h .1)) (decLt n k
     go f (no j) = let e : k ≡ n = omega arith in subst (λ (x : ℕ). P x ≡ true) e (both (P k) (upTo P k) h .0)
 
 -- A word that is in neither list is not refused.
-free : (w : List ℕ) → (among reserved w ≡ true → among spared w ≡ false → ⊥) → (among strict w ≡ true → among spared w ≡ false → ⊥) → refusedWord w ≡ false
+free : (w : List ℕ) → (among reserved w ≡ true → among spared w ≡ false → ⊥)
+    → (among strict w ≡ true → among spared w ≡ false → ⊥) → refusedWord w ≡ false
 unfolding refusedWord
 free w f g = go (among spared w) (among reserved w) (among strict w) f g
   where
@@ -82,9 +86,15 @@ strict-short : each short strict ≡ true
 unfolding each short strict words cut onFirst
 strict-short = refl
 
+-- So more bytes are none.
 pub refused-long : (s : List ℕ) (a n : ℕ) → 10 < n → false ≡ refusedWord (bytesFrom s a n)
 unfolding short
-refused-long s a n h = sym (free (bytesFrom s a n) (λ e d. no-word (each-at short reserved (bytesFrom s a n) reserved-short e)) (λ e d. no-word (each-at short strict (bytesFrom s a n) strict-short e)))
+refused-long s a n h =
+    let w = bytesFrom s a n in
+    sym
+    (free w
+    (λ e d. no-word (each-at short reserved w reserved-short e))
+    (λ e d. no-word (each-at short strict w strict-short e)))
   where
     no-word : leb (length (bytesFrom s a n)) 10 ≡ true → ⊥
     no-word e = let k = leb-true (length (bytesFrom s a n)) 10 e in omega (arith, length-part s a n)
@@ -92,35 +102,51 @@ refused-long s a n h = sym (free (bytesFrom s a n) (λ e d. no-word (each-at sho
 -- ---- a good table
 
 module _ (t f c : List ℕ) (h : good t f c ≡ true) where
-  pub good-lengths : (length f ≡ 11) × (length c ≡ 11)
+  halves : (pick (sound t f c) (complete t f c) false ≡ true)
+      × (pick (eqb (length f) 11) (eqb (length c) 11) false ≡ true)
   unfolding good
+  halves = both (pick (sound t f c) (complete t f c) false) (pick (eqb (length f) 11) (eqb (length c) 11) false) h
+
+  -- It has a place for each length up to 10.
+  pub good-lengths : (length f ≡ 11) × (length c ≡ 11)
   good-lengths =
-      let g = both (eqb (length f) 11) (eqb (length c) 11) (both (pick (sound t f c) (complete t f c) false) (pick (eqb (length f) 11) (eqb (length c) 11) false) h .1) in
+      let g = both (eqb (length f) 11) (eqb (length c) 11) (halves .1) in
       (eqb-true (length f) 11 (g .0), eqb-true (length c) 11 (g .1))
 
-  good-rows : (n : ℕ) → n < 11 → each refusedWord (row t f c n) ≡ true
-  unfolding good sound
-  good-rows n i = up-at (λ m. each refusedWord (row t f c m)) 11 n (both (sound t f c) (complete t f c) (both (pick (sound t f c) (complete t f c) false) (pick (eqb (length f) 11) (eqb (length c) 11) false) h .0) .0) i
+  good-rows : (n : ℕ) → n < 11 → each refusedWord (wordsOf t f c n) ≡ true
+  unfolding sound
+  good-rows n i =
+      up-at (λ m. each refusedWord (wordsOf t f c m)) 11 n (both (sound t f c) (complete t f c) (halves .0) .0) i
 
-  good-known : (each (known t f c) reserved ≡ true) × (each (known t f c) strict ≡ true)
-  unfolding good complete
-  good-known = both (each (known t f c) reserved) (each (known t f c) strict) (both (sound t f c) (complete t f c) (both (pick (sound t f c) (complete t f c) false) (pick (eqb (length f) 11) (eqb (length c) 11) false) h .0) .1)
+  good-covered : (each (covered t f c) reserved ≡ true) × (each (covered t f c) strict ≡ true)
+  unfolding complete
+  good-covered =
+      both (each (covered t f c) reserved) (each (covered t f c) strict)
+      (both (sound t f c) (complete t f c) (halves .0) .1)
 
   -- A word is refused exactly if it stands in the table, among those of its length.
-  refused-row : (w : List ℕ) → length w < 11 → refusedWord w ≡ among (row t f c (length w)) w
-  unfolding known
-  refused-row w i = go (among (row t f c (length w)) w) refl
+  refused-covered : (w : List ℕ) → length w < 11 → refusedWord w ≡ among (wordsOf t f c (length w)) w
+  unfolding covered
+  refused-covered w i = go (among (wordsOf t f c (length w)) w) refl
     where
-      not-known : among (row t f c (length w)) w ≡ false → pick (among spared w) true (among (row t f c (length w)) w) ≡ true → among spared w ≡ false → ⊥
-      not-known e g d = never (sym (rw (d, e)) ∙ g)
+      not-covered : among (wordsOf t f c (length w)) w ≡ false
+          → pick (among spared w) true (among (wordsOf t f c (length w)) w) ≡ true → among spared w ≡ false → ⊥
+      not-covered e g d = never (sym (rw (d, e)) ∙ g)
 
-      go : (b : Bool) → among (row t f c (length w)) w ≡ b → refusedWord w ≡ b
-      go true e = each-at refusedWord (row t f c (length w)) w (good-rows (length w) i) e
-      go false e = free w (λ y d. not-known e (each-at (known t f c) reserved w (good-known .0) y) d) (λ y d. not-known e (each-at (known t f c) strict w (good-known .1) y) d)
+      go : (b : Bool) → among (wordsOf t f c (length w)) w ≡ b → refusedWord w ≡ b
+      go true e = each-at refusedWord (wordsOf t f c (length w)) w (good-rows (length w) i) e
+      go false e =
+          free w
+          (λ y d. not-covered e (each-at (covered t f c) reserved w (good-covered .0) y) d)
+          (λ y d. not-covered e (each-at (covered t f c) strict w (good-covered .1) y) d)
 
-  pub refused-start : (s : List ℕ) (a n : ℕ) → n ≤ 10 → refusedWord (bytesFrom s a n) ≡ among (cells t (getD f n 0) n (getD c n 0 - 0)) (bytesFrom s a n)
-  unfolding row
+  -- So bytes are a refused word exactly if they are among the words of their length.
+  pub refused-start : (s : List ℕ) (a n : ℕ) → n ≤ 10
+      → refusedWord (bytesFrom s a n) ≡ among (cells t (getD f n 0) n (getD c n 0 - 0)) (bytesFrom s a n)
+  unfolding wordsOf
   refused-start s a n i =
       let l = length-part s a n in
       let z : getD c n 0 ≡ getD c n 0 - 0 = omega arith in
-      refused-row (bytesFrom s a n) (omega arith) ∙ ap (λ (m : ℕ). among (row t f c m) (bytesFrom s a n)) l ∙ ap (λ (x : ℕ). among (cells t (getD f n 0) n x) (bytesFrom s a n)) z
+      refused-covered (bytesFrom s a n) (omega arith)
+      ∙ ap (λ (m : ℕ). among (wordsOf t f c m) (bytesFrom s a n)) l
+      ∙ ap (λ (x : ℕ). among (cells t (getD f n 0) n x) (bytesFrom s a n)) z

@@ -1,2 +1,1 @@
-pub mod Leaf
 pub mod Table

@@ -1,61 +1,43 @@
 // The leaves that scan one token.
 ghost use mathlib.Core.Path.{_≡_};
-ghost use mathlib.Core.Bool.{true, false};
-ghost use Prim.Native.Nat.{_+_, _-_, _<_, _≤_};
+ghost use mathlib.Core.Bool.{true};
+ghost use Prim.Native.Nat.{_+_, _-_, _≤_};
 ghost use lib.ListN.{length};
 ghost use Rattle.rules.specs.Parse.{byteAt, pick};
+ghost use Rattle.jsx.specs.Refusal.{unexpected};
 ghost use Rattle.jsx.specs.Byte.{is, _‥_, _or_, lineEnd, letter, digit, quote};
-ghost use Rattle.jsx.specs.Name.{opensName, inWord, inName, same, part as namePart};
+ghost use Rattle.jsx.specs.Name.{opensName, inWord, inName, dashed, part as namePart};
 ghost use Rattle.jsx.specs.Text.{inText, text, quoted};
 ghost use Rattle.jsx.specs.Word.{word, refusedWord, primaryWord, digits, whole, number, string};
 ghost use Rattle.lex.specs.Contract.{Leaf, Past, nothing, bytesFrom};
 ghost use Rattle.lex.specs.declared.Ans.the-variants.{Got, No};
-ghost use Rattle.word.specs.Leaf.{dashes, run};
 ghost use Rattle.word.specs.Table.{good};
 use lex::Ans;
+use lex::bytes::APOSTROPHE;
+use lex::bytes::BACKSLASH;
+use lex::bytes::CLOSE_BRACE;
+use lex::bytes::CR;
+use lex::bytes::DASH;
+use lex::bytes::DOLLAR;
+use lex::bytes::DOT;
+use lex::bytes::END;
+use lex::bytes::GREATER;
+use lex::bytes::LESS;
+use lex::bytes::LF;
+use lex::bytes::LOWER_A;
+use lex::bytes::LOWER_Z;
+use lex::bytes::NINE;
+use lex::bytes::OPEN_BRACE;
+use lex::bytes::QUOTE;
+use lex::bytes::UNDERSCORE;
+use lex::bytes::UPPER_A;
+use lex::bytes::UPPER_Z;
+use lex::bytes::ZERO;
+use lex::refusal::NEVER_CLOSED;
+use lex::refusal::UNEXPECTED;
 
-const LOWER_A: u32 = b'a' as u32;
-
-const LOWER_Z: u32 = b'z' as u32;
-
-const UPPER_A: u32 = b'A' as u32;
-
-const UPPER_Z: u32 = b'Z' as u32;
-
-const ZERO: u32 = b'0' as u32;
-
-const NINE: u32 = b'9' as u32;
-
-const UNDERSCORE: u32 = b'_' as u32;
-
-const DOLLAR: u32 = b'$' as u32;
-
-const DASH: u32 = b'-' as u32;
-
-const DOT: u32 = b'.' as u32;
-
-const QUOTE: u32 = b'"' as u32;
-
-const APOSTROPHE: u32 = b'\'' as u32;
-
-const LESS: u32 = b'<' as u32;
-
-const GREATER: u32 = b'>' as u32;
-
-const OPEN: u32 = b'{' as u32;
-
-const CLOSE: u32 = b'}' as u32;
-
-const BACKSLASH: u32 = b'\\' as u32;
-
-const LF: u32 = b'\n' as u32;
-
-const CR: u32 = b'\r' as u32;
-
-// What `lex::byte` gives at the end.
-const END: u32 = 256;
-
-fn within(b: u32, lo: u32, hi: u32) -> bool
+// From lo to hi, both included.
+pub fn within(b: u32, lo: u32, hi: u32) -> bool
     ensures { λ r. ⌜ r ≡ (lo ‥ hi) b ⌝ }
 {
     lo <= b && b <= hi
@@ -104,7 +86,7 @@ pub fn in_text(b: u32) -> bool
     ensures { λ r. ⌜ r ≡ inText b ⌝ }
 {
     match b {
-        LESS | GREATER | OPEN | CLOSE | END => false,
+        LESS | GREATER | OPEN_BRACE | CLOSE_BRACE | END => false,
         _ => true,
     }
 }
@@ -116,39 +98,46 @@ fn is_bad_in_string(b: u32) -> bool
     b == BACKSLASH || (b == LF || b == CR)
 }
 
-// The rest of a name's part, and whether it holds a dash.
-fn continue_lex_jsx_identifier(s: &[u8], at: usize) -> Ans
-    requires { ⌜ at ≤ length (now s) ⌝ }
-    ensures { λ r. ⌜ Leaf dashes r (now (s .entry)) (run inName) at 0 ⌝ }
+// A part of a name, whose first byte was seen: its end.
+pub fn continue_lex_jsx_identifier(s: &[u8], at: usize) -> usize
+    requires { ⌜ (at ≤ length (now s)) × (opensName (byteAt (now s) at) ≡ true) ⌝ }
+    ensures { λ r. ⌜ Past r (now (s .entry)) namePart at 1 ⌝ }
 {
-    let mut p = at;
-    let mut dash = 0;
-    loop {
-        let b = lex::byte(s, p);
-        if in_word(b) {
-            p = p + 1;
-        } else if b == DASH {
-            p = p + 1;
-            dash = 1;
-        } else {
-            return Ans::Got(p, dash);
-        }
+    let mut p = at + 1;
+    while in_name(lex::byte(s, p)) {
+        p = p + 1;
     }
+    p
 }
 
-// A part of a name: its end, and 1 where it holds a dash.
+// A part of a name; the number is 0.
 pub fn parse_jsx_identifier(s: &[u8], at: usize) -> Ans
     requires { ⌜ at ≤ length (now s) ⌝ }
-    ensures { λ r. ⌜ Leaf dashes r (now (s .entry)) namePart at 1 ⌝ }
+    ensures { λ r. ⌜ Leaf nothing r (now (s .entry)) namePart at 1 ⌝ }
 {
     if opens_name(lex::byte(s, at)) {
-        continue_lex_jsx_identifier(s, at + 1)
+        Ans::Got(continue_lex_jsx_identifier(s, at), 0)
     } else {
         lex::unexpected(s, at)
     }
 }
 
-// A text. (The text's case of the Rust's `read_jsx_child`.)
+// 1 where a dash is among the bytes from a to b, else 0.
+pub fn dashed(s: &[u8], a: usize, b: usize) -> usize
+    requires { ⌜ (a ≤ b) × (b ≤ length (now s)) ⌝ }
+    ensures { λ r. ⌜ r ≡ dashed (bytesFrom (now (s .entry)) a (b - a)) ⌝ }
+{
+    let mut p = a;
+    while p < b {
+        if lex::byte(s, p) == DASH {
+            return 1;
+        }
+        p = p + 1;
+    }
+    0
+}
+
+// A text, whose first byte was seen: its end. (The text's case of the Rust's `read_jsx_child`.)
 pub fn read_jsx_text(s: &[u8], at: usize) -> usize
     requires { ⌜ (at ≤ length (now s)) × (inText (byteAt (now s) at) ≡ true) ⌝ }
     ensures { λ r. ⌜ Past r (now (s .entry)) text at 1 ⌝ }
@@ -160,7 +149,8 @@ pub fn read_jsx_text(s: &[u8], at: usize) -> usize
     p
 }
 
-// A quoted attribute string: it ends at the first same quote. Never closed: 5 at its first byte.
+// A quoted attribute string, whose quote was seen: it ends at the first same quote; the number is 0. Never closed: 5 at
+// its first byte.
 pub fn read_jsx_string_literal(s: &[u8], at: usize) -> Ans
     requires { ⌜ (at ≤ length (now s)) × (quote (byteAt (now s) at) ≡ true) ⌝ }
     ensures { λ r. ⌜ Leaf nothing r (now (s .entry)) quoted at 2 ⌝ }
@@ -173,10 +163,10 @@ pub fn read_jsx_string_literal(s: &[u8], at: usize) -> Ans
         }
         p = p + 1;
     }
-    Ans::No(5, at, at, 0, 0)
+    Ans::No(NEVER_CLOSED, at, at, 0, 0)
 }
 
-// A name inside braces, whose first byte was seen.
+// A name inside braces, whose first byte was seen: its end.
 fn skip_word(s: &[u8], at: usize) -> usize
     requires { ⌜ (at ≤ length (now s)) × (opensName (byteAt (now s) at) ≡ true) ⌝ }
     ensures { λ r. ⌜ Past r (now (s .entry)) word at 1 ⌝ }
@@ -188,7 +178,7 @@ fn skip_word(s: &[u8], at: usize) -> usize
     p
 }
 
-// A name inside braces.
+// A name inside braces; the number is 0.
 pub fn read_word(s: &[u8], at: usize) -> Ans
     requires { ⌜ at ≤ length (now s) ⌝ }
     ensures { λ r. ⌜ Leaf nothing r (now (s .entry)) word at 1 ⌝ }
@@ -200,71 +190,60 @@ pub fn read_word(s: &[u8], at: usize) -> Ans
     }
 }
 
-// Where digits end, and the byte there.
-struct Stop {
-    next: usize,
-    byte: u32,
-}
-
-// As many digits as there are, at least one.
-fn skip_digits(s: &[u8], at: usize) -> Stop
+// As many digits as there are, the first of which was seen: their end.
+fn skip_digits(s: &[u8], at: usize) -> usize
     requires { ⌜ (at ≤ length (now s)) × (digit (byteAt (now s) at) ≡ true) ⌝ }
-    ensures { λ r. ⌜ Past (r .next) (now (s .entry)) digits at 1 × (r .byte ≡ byteAt (now (s .entry)) (r .next)) ⌝ }
+    ensures { λ r. ⌜ Past r (now (s .entry)) digits at 1 ⌝ }
 {
     let mut p = at + 1;
-    loop {
-        let b = lex::byte(s, p);
-        if is_digit(b) {
-            p = p + 1;
-        } else {
-            return Stop { next: p, byte: b };
-        }
+    while is_digit(lex::byte(s, p)) {
+        p = p + 1;
     }
+    p
 }
 
-// A number's whole digits: a 0 alone, or digits.
-fn skip_whole(s: &[u8], at: usize) -> Stop
+// A number's whole digits, a 0 alone or digits: their end.
+fn skip_whole(s: &[u8], at: usize) -> usize
     requires { ⌜ (at ≤ length (now s)) × (digit (byteAt (now s) at) ≡ true) ⌝ }
-    ensures { λ r. ⌜ Past (r .next) (now (s .entry)) whole at 1 × (r .byte ≡ byteAt (now (s .entry)) (r .next)) ⌝ }
+    ensures { λ r. ⌜ Past r (now (s .entry)) whole at 1 ⌝ }
 {
     if lex::byte(s, at) == ZERO {
-        Stop {
-            next: at + 1,
-            byte: lex::byte(s, at + 1),
-        }
+        at + 1
     } else {
         skip_digits(s, at)
     }
 }
 
-// A number from `at` on ends here if no byte of a word follows; else 3 at its start.
-fn end_number(at: usize, end: Stop) -> Ans
-    ensures { λ r. ⌜ r ≡ pick (inWord (end .byte)) (No 3 at at 0 0) (Got (end .next) 0) ⌝ }
+// A number from `at` on ends here if no byte of a word follows, and the number is 0; else 3 at its start.
+fn end_number(s: &[u8], at: usize, end: usize) -> Ans
+    requires { ⌜ end ≤ length (now s) ⌝ }
+    ensures { λ r. ⌜ r ≡ pick (inWord (byteAt (now (s .entry)) end)) (No unexpected at at 0 0) (Got end 0) ⌝ }
 {
-    if in_word(end.byte) {
-        Ans::No(3, at, at, 0, 0)
+    if in_word(lex::byte(s, end)) {
+        Ans::No(UNEXPECTED, at, at, 0, 0)
     } else {
-        Ans::Got(end.next, 0)
+        Ans::Got(end, 0)
     }
 }
 
-// A number: 3 at its start for a bad one.
+// A number, whose first byte was seen; the number of `Got` is 0. A bad one is 3 at its start.
 pub fn read_number(s: &[u8], at: usize) -> Ans
     requires { ⌜ (at ≤ length (now s)) × (digit (byteAt (now s) at) ≡ true) ⌝ }
     ensures { λ r. ⌜ Leaf nothing r (now (s .entry)) number at 1 ⌝ }
 {
     let whole = skip_whole(s, at);
-    if whole.byte != DOT {
-        return end_number(at, whole);
+    if lex::byte(s, whole) != DOT {
+        return end_number(s, at, whole);
     }
-    let p = whole.next + 1;
+    let p = whole + 1;
     if is_digit(lex::byte(s, p)) {
-        return end_number(at, skip_digits(s, p));
+        return end_number(s, at, skip_digits(s, p));
     }
-    Ans::No(3, at, at, 0, 0)
+    Ans::No(UNEXPECTED, at, at, 0, 0)
 }
 
-// A string inside braces: a backslash or a line end is 3 there. Never closed: 5 at its first byte.
+// A string inside braces, whose quote was seen; the number is 0. A backslash or a line end is 3 there; never closed:
+// 5 at its first byte.
 pub fn read_string(s: &[u8], at: usize) -> Ans
     requires { ⌜ (at ≤ length (now s)) × (quote (byteAt (now s) at) ≡ true) ⌝ }
     ensures { λ r. ⌜ Leaf nothing r (now (s .entry)) string at 2 ⌝ }
@@ -274,13 +253,13 @@ pub fn read_string(s: &[u8], at: usize) -> Ans
     loop {
         let b = lex::byte(s, p);
         if b == END {
-            return Ans::No(5, at, at, 0, 0);
+            return Ans::No(NEVER_CLOSED, at, at, 0, 0);
         }
         if b == q {
             return Ans::Got(p + 1, 0);
         }
         if is_bad_in_string(b) {
-            return Ans::No(3, p, p, 0, 0);
+            return Ans::No(UNEXPECTED, p, p, 0, 0);
         }
         p = p + 1;
     }
@@ -333,14 +312,14 @@ pub fn is_refused_word(s: &[u8], a: usize, b: usize) -> bool
     is_in_table(&WORDS, &FIRST, &COUNT, s, a, n)
 }
 
-// A name as a primary: 3 at its start for a refused word.
+// A name as a primary, whose first byte was seen; the number is 0. A refused word is 3 at its start.
 pub fn primary_word(s: &[u8], at: usize) -> Ans
     requires { ⌜ (at ≤ length (now s)) × (opensName (byteAt (now s) at) ≡ true) ⌝ }
     ensures { λ r. ⌜ Leaf nothing r (now (s .entry)) primaryWord at 1 ⌝ }
 {
     let p = skip_word(s, at);
     if is_refused_word(s, at, p) {
-        Ans::No(3, at, at, 0, 0)
+        Ans::No(UNEXPECTED, at, at, 0, 0)
     } else {
         Ans::Got(p, 0)
     }

@@ -1,22 +1,19 @@
-use mathlib.Core.Path.{sym, _∙_}
-use borrow.Author.Needs.{needs}
+use Rattle.word.proofs.Asked.{asked}
 use Rattle.word.proofs.end_number.Statement.{statement}
 use Rattle.word.proofs.end_number.Tie as tie
+use Rattle.word.proofs.NumberSteps.{number-steps}
+
+byte-requires : tie.Need-byte-requires
+byte-requires c κs = search asked
 
 in-word-requires : tie.Need-in-word-requires
-in-word-requires c κs = search needs
+in-word-requires c κs = search asked
 
 returns : tie.Need-returns
-returns c =
-    let in-word = c .before .in-word in
-    let if1 = c .if1 in
-    sym (rw (sym (in-word .ensures) ∙ if1 .taken))
+returns c = search number-steps
 
 returns-2 : tie.Need-returns-2
-returns-2 c =
-    let in-word = c .before .in-word in
-    let if1 = c .if1 in
-    sym (rw (sym (in-word .ensures) ∙ if1 .left))
+returns-2 c = search number-steps
 
 pub end-number-spec : {M : Type 1} → statement M
-end-number-spec = tie.close (tie.spec in-word-requires returns returns-2)
+end-number-spec = tie.close (tie.spec byte-requires in-word-requires returns returns-2)

@@ -1,25 +1,19 @@
-use mathlib.Core.Path.{sym, _∙_}
-use borrow.Author.Needs.{needs}
+use Rattle.word.proofs.Asked.{asked}
 use Rattle.jsx.specs.Name.{inName}
 use Rattle.word.proofs.in_name.Statement.{statement}
 use Rattle.word.proofs.in_name.Tie as tie
+use Rattle.word.proofs.TestSteps.{test-steps}
 
 in-word-requires : tie.Need-in-word-requires
-in-word-requires c κs = search needs
+in-word-requires c κs = search asked
 
 returns : tie.Need-returns
 unfolding inName
-returns c =
-    let in-word = c .before .in-word in
-    let if1 = c .if1 in
-    if1 .taken ∙ sym (rw (sym (in-word .ensures) ∙ if1 .taken))
+returns c = search test-steps
 
 returns-2 : tie.Need-returns-2
 unfolding inName
-returns-2 c =
-    let in-word = c .before .in-word in
-    let if1 = c .if1 in
-    rw (sym (in-word .ensures) ∙ if1 .left)
+returns-2 c = search test-steps
 
 pub in-name-spec : {M : Type 1} → statement M
 in-name-spec = tie.close (tie.spec in-word-requires returns returns-2)

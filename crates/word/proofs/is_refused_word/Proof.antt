@@ -1,39 +1,36 @@
+use Rattle.word.proofs.Asked.{asked}
 use mathlib.Core.Path.{refl}
-use Prim.Native.Nat.{_-_}
 use native.Mathlib.Omega.{arith}
-use borrow.Author.Needs.{needs}
 use Rattle.jsx.specs.Word.{onFirst, cut, words, among, reserved, spared, strict, refusedWord}
 use Rattle.jsx.specs.Name.{same}
 use Rattle.lex.specs.Contract.{bytesFrom}
-use Rattle.word.specs.Table.{good, sound, complete, row, known, each, upTo, cells}
-use Rattle.word.proofs.Words
+use Rattle.word.specs.Table.{good, sound, complete, wordsOf, covered, each, upTo, cells}
 use Rattle.word.proofs.is_refused_word.Statement.{statement}
 use Rattle.word.proofs.is_refused_word.Tie as tie
+use Rattle.word.proofs.RefusedSteps.{refused-steps}
 
 sub-n : tie.Need-sub-n
-sub-n c = search needs
+sub-n c = search asked
 
 returns : tie.Need-returns
-returns c =
-    let args = c .before .before .args in
-    let if1 = c .if1 in
-    Words.refused-long (args .s .now) (args .a) (args .b - args .a) (if1 .taken)
+returns c = search refused-steps
 
 slice-aggregate-is-in-table : tie.Need-slice-aggregate-is-in-table
-slice-aggregate-is-in-table c = search needs
+slice-aggregate-is-in-table c = search asked
 
 slice-aggregate-is-in-table-2 : tie.Need-slice-aggregate-is-in-table-2
-slice-aggregate-is-in-table-2 c = search needs
+slice-aggregate-is-in-table-2 c = search asked
 
 slice-aggregate-is-in-table-3 : tie.Need-slice-aggregate-is-in-table-3
-slice-aggregate-is-in-table-3 c = search needs
+slice-aggregate-is-in-table-3 c = search asked
 
 is-in-table-requires : tie.Need-is-in-table-requires
-unfolding good sound complete row known each upTo cells bytesFrom same cut onFirst words among reserved spared strict refusedWord
+unfolding good sound complete wordsOf covered each upTo cells bytesFrom same
+    cut onFirst words among reserved spared strict refusedWord
 is-in-table-requires c κs = (refl, omega arith, omega arith)
 
 returns-2 : tie.Need-returns-2
-returns-2 c = search needs
+returns-2 c = search refused-steps
 
 pub is-refused-word-spec : {M : Type 1} → statement M
 is-refused-word-spec =
