@@ -1,18 +1,21 @@
 -- Stores into a table: runs of words, rows behind rows, and what a part that was lent says of the whole.
 use mathlib.Core.Path.{_≡_, refl, sym, ap, _∙_}
 use mathlib.Core.List.{List, [], _∷_, _++_, append-nil}
-use Prim.Native.Nat.{ℕ, suc, _+_, _*_, _-_, _≤_, _<_}
+use Prim.Native.Nat.{ℕ, suc, _+_, _*_, _-_, _≤_, _<_, _^_}
 use native.Mathlib.Nat.{zero-add, suc-add, add-suc}
 use native.Mathlib.Omega.{arith}
 use native.Mathlib.Decide.{decLt}
 use lib.ListN.{length, set, take, drop, take-append-drop, length-drop, drop-of-length-le}
 use lib.Seq.{sets, sets-eq, set-comm, set-out, length-take-le, take-all, take-set-le}
+use borrow.Author.Needs.{needs}
 use borrow.Rule.Slice.PartMut.{putMid, midOf}
 use Rattle.rules.specs.Forest.{node, Forest, nil, group, _⋈_, width}
 use Rattle.rules.specs.Record.{rowWords, row, count, records}
 use Rattle.rules.proofs.Forests.{length-records, records-join}
 use Rattle.jsx.specs.Table.{written}
-use Rattle.table.specs.Contract.{Start, nodeRow, leafRow}
+use Rattle.table.specs.declared.Slot.{Slot}
+use Rattle.table.specs.Slot.{slotInside, rowsFrom}
+use Rattle.table.specs.Contract.{Start, Words, nodeRow, Put, Stored}
 
 -- ---- runs of words
 
@@ -27,13 +30,15 @@ sets-append (x ∷ a) b t i =
 set-sets : (b t : List ℕ) (i k x : ℕ) → i < k → sets (set t i x) k b ≡ set (sets t k b) i x
 set-sets [] t i k x h = refl
 set-sets (y ∷ b) t i k x h =
-    ap (λ (l : List ℕ). sets l (suc k) b) (set-comm t i k x y (omega arith)) ∙ set-sets b (set t k y) i (suc k) x (omega arith)
+    ap (λ (l : List ℕ). sets l (suc k) b) (set-comm t i k x y (omega arith))
+    ∙ set-sets b (set t k y) i (suc k) x (omega arith)
 
 -- Two runs that do not meet, in either order.
 pub sets-swap : (a b t : List ℕ) (i k : ℕ) → i + length a ≤ k → sets (sets t i a) k b ≡ sets (sets t k b) i a
 sets-swap [] b t i k h = refl
 sets-swap (x ∷ a) b t i k h =
-    sets-swap a b (set t i x) (suc i) k (omega arith) ∙ ap (λ (l : List ℕ). sets l (suc i) a) (set-sets b t i k x (omega arith))
+    sets-swap a b (set t i x) (suc i) k (omega arith)
+    ∙ ap (λ (l : List ℕ). sets l (suc i) a) (set-sets b t i k x (omega arith))
 
 -- What comes later in the table may be stored first.
 pub sets-before : (a b t : List ℕ) (i k : ℕ) → k ≡ i + length a → sets (sets t k b) i a ≡ sets t i (a ++ b)
@@ -59,50 +64,98 @@ sets-written rows t h =
     let e : 0 + length rows ≡ length rows = zero-add (length rows) in
     sets-eq rows t 0 (omega arith) ∙ ap (λ (k : ℕ). rows ++ drop k t) e
 
--- Six words, stored one by one.
-pub six : (t : List ℕ) {t₁ t₂ t₃ t₄ t₅ t₆ : List ℕ} (a b c d e f : ℕ) → t₁ ≡ set t 0 a → t₂ ≡ set t₁ 1 b → t₃ ≡ set t₂ 2 c → t₄ ≡ set t₃ 3 d
-    → t₅ ≡ set t₄ 4 e → t₆ ≡ set t₅ 5 f → t₆ ≡ sets t 0 (row a b c d e f [])
-six t {t₁} {t₂} {t₃} {t₄} {t₅} {t₆} a b c d e f h₁ h₂ h₃ h₄ h₅ h₆ = cc
+-- One word is stored by setting it.
+pub word-stored : (t : List ℕ) (k w : ℕ) → Put k (w ∷ []) t (set t k w)
+word-stored t k w = record { is = refl }
+
+-- Past the end of the table, a word is stored by changing nothing.
+pub word-out : (t : List ℕ) (k w : ℕ) → length t ≤ k → Put k (w ∷ []) t t
+word-out t k w h = record { is = sym (set-out t k w h) }
+
+-- Three words, stored one by one.
+pub three-stored : {t t₁ t₂ t₃ : List ℕ} {k k₁ k₂ a b c : ℕ}
+    → Put k (a ∷ []) t t₁
+    → Put k₁ (b ∷ []) t₁ t₂
+    → Put k₂ (c ∷ []) t₂ t₃
+    → k₁ ≡ k + 1
+    → k₂ ≡ k + 2
+    → Put k (a ∷ b ∷ c ∷ []) t t₃
+three-stored {k = k} {k₁} {k₂} {a} {b} {c} h₁ h₂ h₃ e₁ e₂ =
+    let f₁ : k₁ ≡ suc k = omega arith in
+    let f₂ : k₂ ≡ suc (suc k) = omega arith in
+    record {
+      is = h₃ .is ∙ (λ i. set (h₂ .is i) (f₂ i) c) ∙ (λ i. set (set (h₁ .is i) (f₁ i) b) (suc (suc k)) c);
+    }
+
+-- A row, stored as three words and three.
+pub row-stored : {t t₁ t₂ : List ℕ} {q : Slot} {k a z x m g par n : ℕ}
+    → Words q k a z x m
+    → Put 0 (k ∷ a ∷ z ∷ []) t t₁
+    → Put 3 (par ∷ g ∷ n ∷ []) t₁ t₂
+    → par ≡ q .parent
+    → g ≡ q .number + (1 + m)
+    → n ≡ x
+    → Stored 0 q k a z x m t t₂
+row-stored w h₁ h₂ e₁ e₂ e₃ = record {
+  is = h₂ .is ∙ (λ i. sets (h₁ .is i) 3 (e₁ i ∷ e₂ i ∷ e₃ i ∷ []));
+  small = omega arith;
+}
+
+pub ruleset writer-steps = (needs, word-stored, word-out, three-stored, row-stored)
 
 -- ---- rows
 
 -- A forest's rows, stored behind another's: those of the two together.
-pub stored : (u v : Forest) (t : List ℕ) (at n par i q k j : ℕ) → q ≡ at + width u → k ≡ n + count u → j ≡ i + rowWords * count u
-    → sets (sets t i (records at n par u)) j (records q k par v) ≡ sets t i (records at n par (u ⋈ v))
-stored u v t at n par i q k j d e z =
-    let h = length-records u at n par in
-    let j′ : j ≡ i + length (records at n par u) = omega arith in
-    (λ y. sets (sets t i (records at n par u)) (j′ y) (records (d y) (e y) par v))
-    ∙ sym (sets-append (records at n par u) (records (at + width u) (n + count u) par v) t i)
-    ∙ ap (sets t i) (sym (records-join u v at n par))
+pub stored : (u v : Forest) (t : List ℕ) (q : Slot) (at i p k j : ℕ)
+    → p ≡ at + width u
+    → k ≡ q .number + count u
+    → j ≡ i + rowWords * count u
+    → sets (sets t i (rowsFrom q at u)) j (records p k (q .parent) v) ≡ sets t i (rowsFrom q at (u ⋈ v))
+stored u v t q at i p k j d e z =
+    let h = length-records u at (q .number) (q .parent) in
+    let j′ : j ≡ i + length (rowsFrom q at u) = omega arith in
+    (λ y. sets (sets t i (rowsFrom q at u)) (j′ y) (records (d y) (e y) (q .parent) v))
+    ∙ sym (sets-append (rowsFrom q at u) (records (at + width u) (q .number + count u) (q .parent) v) t i)
+    ∙ ap (sets t i) (sym (records-join u v at (q .number) (q .parent)))
 
 -- A node's own row, stored after the rows below it.
-pub headed : (c : Forest) (t : List ℕ) (at n par i j k z x m : ℕ) → z ≡ at + width c → m ≡ count c → j ≡ i + rowWords
-    → sets (sets t j (records at (n + 1) n c)) i (nodeRow n par k at z x m) ≡ sets t i (records at n par (group (node k x) c nil))
+pub headed : (c : Forest) (t : List ℕ) (q : Slot) (at i j k z x m : ℕ)
+    → z ≡ at + width c
+    → m ≡ count c
+    → j ≡ i + rowWords
+    → sets (sets t j (rowsFrom (slotInside q) at c)) i (nodeRow q k at z x m)
+    ≡ sets t i (rowsFrom q at (group (node k x) c nil))
 unfolding records
-headed c t at n par i j k z x m hz hm hj =
-    sets-before (nodeRow n par k at z x m) (records at (n + 1) n c) t i j hj
-    ∙ (λ y. sets t i (row k at (hz y) par (n + (1 + hm y)) x (sym (append-nil (records at (n + 1) n c)) y)))
+headed c t q at i j k z x m hz hm hj =
+    let below = rowsFrom (slotInside q) at c in
+    sets-before (nodeRow q k at z x m) below t i j hj
+    ∙ (λ y. sets t i (row k at (hz y) (q .parent) (q .number + (1 + hm y)) x (sym (append-nil below) y)))
 
 -- Nothing that has no node has a row.
-pub rows-none : (c : Forest) (at n par : ℕ) → count c ≡ 0 → records at n par c ≡ []
-rows-none c at n par h = go (records at n par c) (omega (arith, length-records c at n par))
+pub rows-none : (c : Forest) (q : Slot) (at : ℕ) → count c ≡ 0 → rowsFrom q at c ≡ []
+rows-none c q at h = go (rowsFrom q at c) (omega (arith, length-records c at (q .number) (q .parent)))
   where
     go : (l : List ℕ) → length l ≡ 0 → l ≡ []
     go [] e = refl
     go (x ∷ l) e = absurd (omega arith)
 
 -- The row of a node with no node below it.
-pub leaf-row : (c : Forest) (at n par k z x : ℕ) → z ≡ at + width c → count c ≡ 0 → leafRow n par k at z x ≡ records at n par (group (node k x) c nil)
+pub leaf-row : (c : Forest) (q : Slot) (at k z x : ℕ)
+    → z ≡ at + width c
+    → count c ≡ 0
+    → nodeRow q k at z x 0 ≡ rowsFrom q at (group (node k x) c nil)
 unfolding records
-leaf-row c at n par k z x hz hc =
-    λ y. row k at (hz y) par (n + (1 + sym hc y)) x (sym (append-nil (records at (n + 1) n c) ∙ rows-none c at (n + 1) n hc) y)
+leaf-row c q at k z x hz hc =
+    let below = rowsFrom (slotInside q) at c in
+    let none = sym (append-nil below ∙ rows-none c (slotInside q) at hc) in
+    λ y. row k at (hz y) (q .parent) (q .number + (1 + sym hc y)) x (none y)
 
 -- ---- a part that was lent, `&mut t[a..]`, where a is the word k or the end
 
 set-after : (p q : List ℕ) (j w : ℕ) → set (p ++ q) (length p + j) w ≡ p ++ set q j w
 set-after [] q j w = ap (λ (i : ℕ). set q i w) (zero-add j)
-set-after (x ∷ p) q j w = ap (λ (i : ℕ). set (x ∷ p ++ q) i w) (suc-add (length p) j) ∙ ap (λ (l : List ℕ). x ∷ l) (set-after p q j w)
+set-after (x ∷ p) q j w =
+    ap (λ (i : ℕ). set (x ∷ p ++ q) i w) (suc-add (length p) j) ∙ ap (λ (l : List ℕ). x ∷ l) (set-after p q j w)
 
 sets-after : (ws p q : List ℕ) (j : ℕ) → sets (p ++ q) (length p + j) ws ≡ p ++ sets q j ws
 sets-after [] p q j = refl
@@ -112,7 +165,10 @@ sets-after (w ∷ ws) p q j =
     ∙ sets-after ws p (set q j w) (suc j)
 
 -- What is stored at the front of the part is stored at k of the whole.
-pub lent : (ws t : List ℕ) {k a : ℕ} {y : List ℕ} → Start (length t) k a → y ≡ sets (midOf a (length t - a) t) 0 ws → putMid a (length t - a) t y ≡ sets t k ws
+pub lent : (ws t : List ℕ) {k a : ℕ} {y : List ℕ}
+    → Start (length t) k a
+    → y ≡ sets (midOf a (length t - a) t) 0 ws
+    → putMid a (length t - a) t y ≡ sets t k ws
 lent ws t {k} {a} {y} st e =
     let h = st .inside in
     let n : length (drop a t) ≡ length t - a = length-drop a t in
@@ -133,6 +189,20 @@ lent ws t {k} {a} {y} st e =
         let w = st .none (omega arith) in
         sets-out ws t a (omega arith) ∙ sym (sets-out ws t k (omega arith))
 
--- The same, by other words.
-pub lent-as : (ws : List ℕ) {vs : List ℕ} (t : List ℕ) {k a : ℕ} {y : List ℕ} → Start (length t) k a → y ≡ sets (midOf a (length t - a) t) 0 ws → vs ≡ ws → putMid a (length t - a) t y ≡ sets t k vs
-lent-as ws t {k} st e f = lent ws t st e ∙ ap (λ (l : List ℕ). sets t k l) (sym f)
+-- A row that was stored at the front of a part is stored at its place of the whole.
+pub stored-at : (t y : List ℕ) (k a : ℕ) {q : Slot} {kind b z x m : ℕ}
+    → Start (length t) k a
+    → Stored 0 q kind b z x m (midOf a (length t - a) t) y
+    → Stored k q kind b z x m t (putMid a (length t - a) t y)
+stored-at t y k a {q} {kind} {b} {z} {x} {m} st w = record {
+  is = lent (nodeRow q kind b z x m) t st (w .is);
+  small = w .small;
+}
+
+-- In a table of no words nothing is stored.
+pub stored-none : (t : List ℕ) (k : ℕ) (q : Slot) (kind a z x m : ℕ)
+    → length t ≡ 0
+    → q .number + (1 + m) < 2 ^ 32
+    → Stored k q kind a z x m t t
+stored-none t k q kind a z x m h f =
+    record { is = sym (sets-out (nodeRow q kind a z x m) t k (omega arith)); small = f }

@@ -1,3 +1,10 @@
--- What the proofs of several functions, and of later crates, use.
+-- Stores into a table.
 pub mod Laws
+-- Which part of an input a span or a record is, and what answers it.
 pub mod Parts
+-- A reader that writes: to close a return of one, and what its answer says.
+pub mod Made
+-- A rule on its way: a law for each step of a reader's code.
+pub mod Upto
+-- What the calls of a reader ask.
+pub mod Asked

@@ -4,8 +4,10 @@ use mathlib.Core.Path.{_≡_}
 use mathlib.Core.Bool.{Bool}
 use mathlib.Core.List.{List, []}
 use denote.Ref.{RefT}
+use lib.Seq.{sets}
 use Rattle.rules.specs.Record.{row}
 use Rattle.jsx.specs.Table.{Part, bytesIn}
+use Rattle.table.specs.declared.Slot.{Slot}
 
 -- Where the part from the word k on starts in a table of l words: at k, or at the end.
 pub record Start (l k r : ℕ) : Type 0 where
@@ -13,19 +15,26 @@ pub record Start (l k r : ℕ) : Type 0 where
   pub there : k ≤ l → r ≡ k
   pub none : l ≤ k → r ≡ l
 
--- Six numbers that are words.
-abbrev pub Words : (kind start end parent after extra : ℕ) → Type 0
-Words k a z par n x = (k < 2 ^ 32) × (a < 2 ^ 32) × (z < 2 ^ 32) × (par < 2 ^ 32) × (n < 2 ^ 32) × (x < 2 ^ 32)
+-- From t to t′ these words were stored from the word k on, each where it fits.
+pub record Put (k : ℕ) (ws : List ℕ) (t t′ : List ℕ) : Type 0 where
+  pub is : t′ ≡ sets t k ws
 
--- The row of the record n, with m records below it.
-abbrev pub nodeRow : (n parent kind start end extra m : ℕ) → List ℕ
-nodeRow n par k a z x m = row k a z par (n + (1 + m)) x []
+-- A row's numbers are words.
+abbrev pub Words : Slot → (kind start end extra below : ℕ) → Type 0
+Words q k a z x m =
+    (k < 2 ^ 32) × (a < 2 ^ 32) × (z < 2 ^ 32) × (q .parent < 2 ^ 32) × (q .number + (1 + m) < 2 ^ 32) × (x < 2 ^ 32)
 
--- The row of the record n, with none below it.
-abbrev pub leafRow : (n parent kind start end extra : ℕ) → List ℕ
-leafRow n par k a z x = nodeRow n par k a z x 0
+-- A node's row, with m records below it.
+abbrev pub nodeRow : Slot → (kind start end extra below : ℕ) → List ℕ
+nodeRow q k a z x m = row k a z (q .parent) (q .number + (1 + m)) x []
 
--- A part p of the input s is answered by r: p's bytes, lent from the place in s where p starts; and by whether p was found.
+-- From t to t′ a node's row was stored at the word k, where it fits.
+pub record Stored (k : ℕ) (q : Slot) (kind start end extra below : ℕ) (t t′ : List ℕ) : Type 0 where
+  pub is : t′ ≡ sets t k (nodeRow q kind start end extra below)
+  pub small : q .number + (1 + below) < 2 ^ 32
+
+-- A part p of the input s is answered by r: p's bytes, lent from the place in s where p starts; and by whether p was
+-- found.
 pub record Answered (s : RefT (List ℕ)) (p : Part) (r : RefT (List ℕ)) (found : Bool) : Type 0 where
   pub tells : found ≡ p .found
   pub bytes : r .now ≡ bytesIn (s .now) p

@@ -1,15 +1,63 @@
-// The record table: rows stored into a part that is lent, and the bytes of a record. Chapter 'The table'.
+// The record table: where a reader stands in it, rows stored into a part that is lent, and the bytes of a record.
+// Chapter 'The table'.
 ghost use mathlib.Core.Path.{_≡_};
-ghost use mathlib.Core.List.{[]};
+ghost use mathlib.Core.List.{[], _∷_};
 ghost use Prim.Native.Nat.{_+_, _<_, _^_};
-ghost use lib.ListN.{getD, set};
-ghost use lib.Seq.{sets};
-ghost use Rattle.rules.specs.Record.{row};
+ghost use lib.ListN.{getD};
 ghost use Rattle.jsx.specs.Table.{noPart, spanPart, recordPart};
-ghost use Rattle.table.specs.Contract.{Start, Words, nodeRow, leafRow, Answered};
+ghost use Rattle.table.specs.Slot.{slotInside, slotBehind};
+ghost use Rattle.table.specs.Contract.{Start, Words, Put, Stored, Answered};
 
 // The words of a row.
 pub const ROW_WORDS: usize = 6;
+
+// Places in a row: kind, start and end; then parent, `after` and extra.
+const KIND: usize = 0;
+
+const START: usize = 1;
+
+const END: usize = 2;
+
+const PARENT: usize = 3;
+
+// Where a reader stands in the table: the number of its next record, and the record that it stands in.
+pub struct Slot {
+    pub number: usize,
+    pub parent: usize,
+}
+
+impl Slot {
+    // Inside the record here.
+    pub fn inside(self) -> Slot
+        requires { ⌜ self .number < 2 ^ 32 ⌝ }
+        ensures { λ r. ⌜ r ≡ slotInside self ⌝ }
+    {
+        Slot {
+            number: self.number + 1,
+            parent: self.number,
+        }
+    }
+
+    // Behind m records.
+    pub fn behind(self, m: usize) -> Slot
+        requires { ⌜ self .number + m < 2 ^ 32 ⌝ }
+        ensures { λ r. ⌜ r ≡ slotBehind m self ⌝ }
+    {
+        Slot {
+            number: self.number + m,
+            parent: self.parent,
+        }
+    }
+}
+
+// What a node says of itself: its kind, its span, its extra word, and how many records are below it.
+pub struct Node {
+    pub kind: usize,
+    pub start: usize,
+    pub end: usize,
+    pub extra: usize,
+    pub below: usize,
+}
 
 // Where the part from the word k on starts in a table of l words: at k, or at the end.
 pub fn start(l: usize, k: usize) -> usize
@@ -21,101 +69,39 @@ pub fn start(l: usize, k: usize) -> usize
 // A word, where it fits.
 pub fn put_word(t: &mut [u32], k: usize, w: usize)
     requires { ⌜ w < 2 ^ 32 ⌝ }
-    ensures { λ _. ⌜ now (t .exit) ≡ set (now (t .entry)) k w ⌝ }
+    ensures { λ _. ⌜ Put k (w ∷ []) (now (t .entry)) (now (t .exit)) ⌝ }
 {
     if k < t.len() {
         t[k] = w as u32;
     }
 }
 
-// A row at the front of the part.
-pub fn put_row(
-    t: &mut [u32],
-    kind: usize,
-    start: usize,
-    end: usize,
-    parent: usize,
-    after: usize,
-    extra: usize,
-)
-    requires { ⌜ Words kind start end parent after extra ⌝ }
-    ensures { λ _. ⌜ now (t .exit) ≡ sets (now (t .entry)) 0 (row kind start end parent after extra []) ⌝ }
+// Three words from the word k on, each where it fits.
+fn put_three(t: &mut [u32], k: usize, a: usize, b: usize, c: usize)
+    requires { ⌜ (k < 4) × (a < 2 ^ 32) × (b < 2 ^ 32) × (c < 2 ^ 32) ⌝ }
+    ensures { λ _. ⌜ Put k (a ∷ b ∷ c ∷ []) (now (t .entry)) (now (t .exit)) ⌝ }
 {
-    put_word(t, 0, kind);
-    put_word(t, 1, start);
-    put_word(t, 2, end);
-    put_word(t, 3, parent);
-    put_word(t, 4, after);
-    put_word(t, 5, extra);
+    put_word(t, k, a);
+    put_word(t, k + 1, b);
+    put_word(t, k + 2, c);
 }
 
-// The row of the record n, with `count` records below it, at the front of the part.
-pub fn put_node(
-    t: &mut [u32],
-    n: usize,
-    parent: usize,
-    kind: usize,
-    start: usize,
-    end: usize,
-    extra: usize,
-    count: usize,
-)
-    requires { ⌜ Words kind start end parent (n + (1 + count)) extra ⌝ }
-    ensures { λ _. ⌜ now (t .exit) ≡ sets (now (t .entry)) 0 (nodeRow n parent kind start end extra count) ⌝ }
+// A node's row at the front of the part.
+pub fn put_node(t: &mut [u32], slot: Slot, w: Node)
+    requires { ⌜ Words slot (w .kind) (w .start) (w .end) (w .extra) (w .below) ⌝ }
+    ensures { λ _. ⌜ Stored 0 slot (w .kind) (w .start) (w .end) (w .extra) (w .below) (now (t .entry)) (now (t .exit)) ⌝ }
 {
-    put_row(t, kind, start, end, parent, n + (1 + count), extra);
+    put_three(t, KIND, w.kind, w.start, w.end);
+    put_three(t, PARENT, slot.parent, slot.number + (1 + w.below), w.extra);
 }
 
-// The row of the record n, with none below it, at the front of the part.
-pub fn put_leaf(
-    t: &mut [u32],
-    n: usize,
-    parent: usize,
-    kind: usize,
-    start: usize,
-    end: usize,
-    extra: usize,
-)
-    requires { ⌜ Words kind start end parent (n + 1) extra ⌝ }
-    ensures { λ _. ⌜ now (t .exit) ≡ sets (now (t .entry)) 0 (leafRow n parent kind start end extra) ⌝ }
-{
-    put_node(t, n, parent, kind, start, end, extra, 0);
-}
-
-// The row of the record n at the word k: its writer is lent only the part from there on.
-pub fn put_node_at(
-    t: &mut [u32],
-    k: usize,
-    n: usize,
-    parent: usize,
-    kind: usize,
-    from: usize,
-    end: usize,
-    extra: usize,
-    count: usize,
-)
-    requires { ⌜ Words kind from end parent (n + (1 + count)) extra ⌝ }
-    ensures { λ _. ⌜ now (t .exit) ≡ sets (now (t .entry)) k (nodeRow n parent kind from end extra count) ⌝ }
+// A node's row at the word k: its writer is lent only the part from there on.
+pub fn put_node_at(t: &mut [u32], k: usize, slot: Slot, w: Node)
+    requires { ⌜ Words slot (w .kind) (w .start) (w .end) (w .extra) (w .below) ⌝ }
+    ensures { λ _. ⌜ Stored k slot (w .kind) (w .start) (w .end) (w .extra) (w .below) (now (t .entry)) (now (t .exit)) ⌝ }
 {
     let i = start(t.len(), k);
-    put_node(&mut t[i..], n, parent, kind, from, end, extra, count);
-}
-
-// The same, of a record with none below it.
-pub fn put_leaf_at(
-    t: &mut [u32],
-    k: usize,
-    n: usize,
-    parent: usize,
-    kind: usize,
-    from: usize,
-    end: usize,
-    extra: usize,
-)
-    requires { ⌜ Words kind from end parent (n + 1) extra ⌝ }
-    ensures { λ _. ⌜ now (t .exit) ≡ sets (now (t .entry)) k (leafRow n parent kind from end extra) ⌝ }
-{
-    put_node_at(t, k, n, parent, kind, from, end, extra, 0);
+    put_node(&mut t[i..], slot, w);
 }
 
 // The word at a place, 0 past the end.
@@ -163,7 +149,7 @@ pub fn record_bytes<'a>(
     if t.len() / ROW_WORDS <= number {
         return no_bytes(s, found);
     }
-    let start = table_word(t, ROW_WORDS * number + 1) as usize;
-    let end = table_word(t, ROW_WORDS * number + 2) as usize;
+    let start = table_word(t, ROW_WORDS * number + START) as usize;
+    let end = table_word(t, ROW_WORDS * number + END) as usize;
     span_bytes(s, start, end, found)
 }
