@@ -2,52 +2,48 @@
 use mathlib.Core.Path.{_≡_, refl, sym, ap, _∙_}
 use mathlib.Core.Bool.{Bool, true, false}
 use mathlib.Core.List.{List, [], _∷_}
-use mathlib.Core.Logic.{_⊎_, inl, inr}
-use Prim.Native.Nat.{ℕ, zero, suc, _≤_, _<_}
+use Prim.Native.Nat.{ℕ, zero, suc, _-_, _≤_, _<_}
 use native.Mathlib.Omega.{arith}
-use lib.Dec.{eqb, leb}
-use borrow.Author.Tests.{ne-eqb, eqb-true, le-leb, leb-true}
-use Rattle.rules.specs.Forest.{node, direct}
+use lib.Dec.{eqb}
+use borrow.Author.Needs.{needs}
+use borrow.Author.Tests.{eqb-true, eq-eqb, ne-eqb}
+use Rattle.rules.specs.Forest.{node}
 use Rattle.rules.specs.Rule.{Test}
-use Rattle.rules.specs.Parse.{pick, byteAt, readAt}
+use Rattle.rules.specs.Parse.{pick, byteAt}
 use Rattle.rules.proofs.Run.{never}
-use Rattle.jsx.specs.Name.{has, same, firstIs, part, dashed, isThis, opensReference, oneName, objectName}
-use Rattle.lex.specs.Contract.{outOf, Leaf, bytesFrom}
-use Rattle.lex.specs.declared.Ans.{Ans}
-use Rattle.lex.specs.declared.Ans.the-variants.{Got}
-use Rattle.lex.proofs.Laws.{leaf-number}
-use Rattle.word.specs.Leaf.{dashes}
-use Rattle.name.specs.Contract.{FirstPart}
-use Rattle.lex.proofs.Bare.{goes-part}
+use Rattle.jsx.specs.Kind as Kind
+use Rattle.jsx.specs.Byte.{_‥_}
+use Rattle.jsx.specs.Name.{has, same, firstIs, dashed, isThis, opensReference, oneName, objectName}
+use Rattle.lex.specs.Contract.{bytesFrom}
 
 -- ---- the first byte
 
-module _ (b : ℕ) where
-  pub reference-range : 65 ≤ b → b ≤ 90 → opensReference b ≡ true
+module _ (b : ℕ) {x : Bool} (h : x ≡ (65 ‥ 90) b) where
+  -- A letter from A to Z opens a reference.
+  pub opens-letter : x ≡ true → x ≡ opensReference b
   unfolding opensReference
-  reference-range h k = rw (le-leb 65 b h, le-leb b 90 k)
+  opens-letter e = e ∙ sym (rw (sym h ∙ e))
 
-  pub reference-sign : (b ≡ 36) ⊎ (b ≡ 95) → opensReference b ≡ true
-  unfolding opensReference
-  reference-sign (inl h) = rw h
-  reference-sign (inr h) = rw h
+  module _ (e : x ≡ false) where
+    -- `_` opens a reference.
+    pub opens-low : {y : Bool} → b ≡ 95 → y ≡ eqb b 95 → y ≡ opensReference b
+    unfolding opensReference
+    opens-low f g = g ∙ eq-eqb b 95 f ∙ sym (rw (sym h ∙ e, eq-eqb b 95 f))
 
-  pub reference-none : (65 ≤ b → b ≤ 90 → ⊥) → ((b ≡ 36) ⊎ (b ≡ 95) → ⊥) → opensReference b ≡ false
-  unfolding opensReference
-  reference-none h k = rw (ne-eqb b 95 (λ e. k (inr e)), ne-eqb b 36 (λ e. k (inl e))) (go (leb 65 b) (leb b 90) refl refl)
-    where
-      go : (x y : Bool) → leb 65 b ≡ x → leb b 90 ≡ y → pick (pick x y false) true false ≡ false
-      go true true e f = absurd (h (leb-true 65 b e) (leb-true b 90 f))
-      go true false e f = refl
-      go false y e f = refl
+    -- Of all other bytes just `$` opens one.
+    pub opens-sign : (b ≡ 95 → ⊥) → eqb b 36 ≡ opensReference b
+    unfolding opensReference
+    opens-sign f = sym (rw (sym h ∙ e, ne-eqb b 95 f))
 
-pub first-is : (f : Test) (s : List ℕ) (a n : ℕ) → 0 < n → firstIs f (bytesFrom s a n) ≡ f (byteAt s a)
+-- A name's first byte is the input's there.
+first-is : (f : Test) (s : List ℕ) (a n : ℕ) → 0 < n → firstIs f (bytesFrom s a n) ≡ f (byteAt s a)
 unfolding firstIs bytesFrom
 first-is f s a zero h = absurd (omega arith)
 first-is f s a (suc n) h = refl
 
 -- ---- dashes
 
+-- The number for a dash is at most 1.
 pub dashed-few : (w : List ℕ) → dashed w ≤ 1
 unfolding dashed
 dashed-few w = go (has "-" w)
@@ -56,13 +52,7 @@ dashed-few w = go (has "-" w)
     go true = omega arith
     go false = omega arith
 
-pub dash-few : {r : Ans} {s : List ℕ} {at k p d : ℕ} → Leaf dashes r s part at k → r ≡ Got p d → d ≤ 1
-dash-few {s = s} {at} l e = let n = leaf-number goes-part l e in omega (arith, dashed-few (direct (outOf (readAt s part at))))
-
-pub first-few : {s : List ℕ} {at e d q : ℕ} → FirstPart s at e d q → d ≤ 1
-first-few {s} {at} f = let k = f .is-dashed in omega (arith, dashed-few (direct (outOf (readAt s part at))))
-
--- What the number for a dash says.
+-- Where the number for a dash is 1, the bytes have a dash.
 pub dash-yes : (w : List ℕ) {d : ℕ} → d ≡ dashed w → d ≡ 1 → has "-" w ≡ true
 unfolding dashed
 dash-yes w {d} e f = go (has "-" w) (sym e ∙ f)
@@ -71,6 +61,7 @@ dash-yes w {d} e f = go (has "-" w) (sym e ∙ f)
     go true h = refl
     go false h = absurd (omega arith)
 
+-- Where the number for a dash is not 1, the bytes have none, and it is 0.
 pub dash-no : (w : List ℕ) {d : ℕ} → d ≡ dashed w → (d ≡ 1 → ⊥) → (has "-" w ≡ false) × (d ≡ 0)
 unfolding dashed
 dash-no w {d} e f = go (has "-" w) e
@@ -78,10 +69,6 @@ dash-no w {d} e f = go (has "-" w) e
     go : (b : Bool) → d ≡ pick {A = ℕ} b 1 0 → (b ≡ false) × (d ≡ 0)
     go true h = absurd (f h)
     go false h = (refl, h)
-
-pub undashed : (w : List ℕ) → has "-" w ≡ false → dashed w ≡ 0
-unfolding dashed
-undashed w h = rw h
 
 same-is : (u v : List ℕ) → same u v ≡ true → u ≡ v
 unfolding same
@@ -99,36 +86,63 @@ this-undashed : (w : List ℕ) → isThis w ≡ true → dashed w ≡ 0
 unfolding isThis dashed has
 this-undashed w h = ap dashed (same-is w _ h)
 
--- ---- one-part names, and the object of a member
+-- ---- the kinds, by the tests of the code
 
-module _ (w : List ℕ) {d : ℕ} (e : d ≡ dashed w) where
-  pub name-dashed : d ≡ 1 → oneName w ≡ node 3 d
+module _ (s : List ℕ) (a b : ℕ) {d : ℕ} (i : a < b) (e : d ≡ dashed (bytesFrom s a (b - a))) where
+  -- With a dash: an identifier.
+  pub name-dashed : d ≡ 1 → oneName (bytesFrom s a (b - a)) ≡ node Kind.identifier d
   unfolding oneName
-  name-dashed f = rw (dash-yes w e f) (ap (node 3) (sym f))
+  name-dashed f = rw (dash-yes (bytesFrom s a (b - a)) e f) (ap (node Kind.identifier) (sym f))
 
-  module _ (f : d ≡ 1 → ⊥) where
-    pub name-reference : firstIs opensReference w ≡ true → oneName w ≡ node 4 d
+  module _ (f : d ≡ 1 → ⊥) {c : ℕ} (h : c ≡ byteAt s a) {x : Bool} (k : x ≡ opensReference c) where
+    plain : (has "-" (bytesFrom s a (b - a)) ≡ false) × (d ≡ 0)
+    plain = dash-no (bytesFrom s a (b - a)) e f
+
+    opened : {y : Bool} → x ≡ y → firstIs opensReference (bytesFrom s a (b - a)) ≡ y
+    opened z = first-is opensReference s a (b - a) (omega arith) ∙ sym (ap opensReference h) ∙ sym k ∙ z
+
+    -- By its first byte: a reference.
+    pub name-reference : x ≡ true → oneName (bytesFrom s a (b - a)) ≡ node Kind.reference d
     unfolding oneName
-    name-reference g = let h = dash-no w e f in rw (h .0, g) (ap (node 4) (sym (h .1)))
+    name-reference z = rw (plain .0, opened z) (ap (node Kind.reference) (sym (plain .1)))
 
-    module _ (g : firstIs opensReference w ≡ false) where
-      pub name-this : isThis w ≡ true → oneName w ≡ node 5 d
+    module _ (z : x ≡ false) {v : Bool} (l : v ≡ isThis (bytesFrom s a (b - a))) where
+      -- By all its bytes: This.
+      pub name-this : v ≡ true → oneName (bytesFrom s a (b - a)) ≡ node Kind.this d
       unfolding oneName
-      name-this i = let h = dash-no w e f in rw (h .0, g, i) (ap (node 5) (sym (h .1)))
+      name-this w = rw (plain .0, opened z, sym l ∙ w) (ap (node Kind.this) (sym (plain .1)))
 
-      pub name-other : isThis w ≡ false → oneName w ≡ node 3 d
+      -- By none of these: an identifier.
+      pub name-other : v ≡ false → oneName (bytesFrom s a (b - a)) ≡ node Kind.identifier d
       unfolding oneName
-      name-other i = let h = dash-no w e f in rw (h .0, g, i) (ap (node 3) (sym (h .1)))
+      name-other w = rw (plain .0, opened z, sym l ∙ w) (ap (node Kind.identifier) (sym (plain .1)))
 
-pub object-this : (w : List ℕ) → isThis w ≡ true → objectName w ≡ node 5 (dashed w)
-unfolding objectName
-object-this w h = rw h (ap (node 5) (sym (this-undashed w h)))
+module _ (s : List ℕ) (a b : ℕ) {v : Bool} (l : v ≡ isThis (bytesFrom s a (b - a))) where
+  -- An object whose bytes are `this` is This, with the number for a dash as its extra.
+  pub object-this : v ≡ true → objectName (bytesFrom s a (b - a)) ≡ node Kind.this (dashed (bytesFrom s a (b - a)))
+  unfolding objectName
+  object-this h = rw (sym l ∙ h) (ap (node Kind.this) (sym (this-undashed (bytesFrom s a (b - a)) (sym l ∙ h))))
 
-pub object-other : (w : List ℕ) → isThis w ≡ false → objectName w ≡ node 4 (dashed w)
-unfolding objectName
-object-other w h = rw h
+  -- Any other object is a reference, with the number for a dash as its extra.
+  pub object-other : v ≡ false
+      → objectName (bytesFrom s a (b - a)) ≡ node Kind.reference (dashed (bytesFrom s a (b - a)))
+  unfolding objectName
+  object-other h = rw (sym l ∙ h)
 
--- Kinds are small.
+pub ruleset kind-steps = (
+  needs,
+  opens-letter,
+  opens-low,
+  opens-sign,
+  name-dashed,
+  name-reference,
+  name-this,
+  name-other,
+  object-this,
+  object-other,
+)
+
+-- The kind of an object is at most 5.
 pub object-few : (w : List ℕ) {k x : ℕ} → objectName w ≡ node k x → k ≤ 5
 unfolding objectName
 object-few w {k} {x} = go (isThis w)
@@ -137,6 +151,7 @@ object-few w {k} {x} = go (isThis w)
     go true e = let h : 5 ≡ k = cc in omega arith
     go false e = let h : 4 ≡ k = cc in omega arith
 
+-- The kind of a name of one part is at most 5.
 pub name-few : (w : List ℕ) {k x : ℕ} → oneName w ≡ node k x → k ≤ 5
 unfolding oneName
 name-few w {k} {x} = go (has "-" w) (firstIs opensReference w) (isThis w)

@@ -1,9 +1,18 @@
--- What the proofs of several functions, and of later crates, use.
-pub mod Bytes
+-- Whether bytes are `this`.
+pub mod This
+-- The kinds of names, by their bytes.
 pub mod Labels
-pub mod Flat
-pub mod Made
-pub mod Steps
-pub mod Rows
-pub mod Members
-pub mod Looks
+-- The rows of names.
+pub mod WriterSteps
+-- What the rules of parts answer.
+pub mod Parts
+-- A part with its row, and a part behind a dot.
+pub mod PartSteps
+-- The loop over a member's parts.
+pub mod DottedSteps
+-- A member's name.
+pub mod MemberSteps
+-- A name with a colon.
+pub mod NamespacedSteps
+-- The names of elements and attributes.
+pub mod NameSteps
