@@ -6,12 +6,14 @@ use Rattle.rules.specs.Forest.{node, content, Forest, nil, byte, group, _⋈_, 
 use Rattle.jsx.specs.Closing.{nodesOf}
 use Rattle.lex.proofs.Bare.{Flat}
 
+-- Bytes in front have none.
 pub nodes-flat : (u v : Forest) → Flat u → nodesOf (u ⋈ v) ≡ nodesOf v
 unfolding nodesOf _⋈_
 nodes-flat nil v h = refl
 nodes-flat (byte b u) v h = nodes-flat u v h
 nodes-flat (group l c u) v h = absurd h
 
+-- Those of two forests, one behind the other.
 pub nodes-join : (u v : Forest) → nodesOf (u ⋈ v) ≡ nodesOf u ++ nodesOf v
 unfolding nodesOf _⋈_
 nodes-join nil v = refl

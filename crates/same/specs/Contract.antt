@@ -7,22 +7,25 @@ use lib.ListN.{length}
 use Rattle.rules.specs.Forest.{node, content, Forest, nil, byte, group}
 use Rattle.rules.specs.Rule.{Rule, many, _⨾_}
 use Rattle.rules.specs.Parse.{got, readAt}
-use Rattle.jsx.specs.Byte.{expect}
 use Rattle.jsx.specs.Blank.{blanks}
-use Rattle.jsx.specs.Name.{dottedPart, dotted, elementName}
-use Rattle.jsx.specs.Closing.{nodesOf, sameName}
+use Rattle.jsx.specs.Name.{otherPart, dottedPart, dotted, elementName}
+use Rattle.jsx.specs.Closing.{nodesOf, allSame, sameName}
 use Rattle.lex.specs.Contract.{outOf}
 
 -- The rule t reads something at a place, and goes on.
-pub record Reads (s : List ℕ) (t : Rule) (at : ℕ) : Type 0 where
+pub record ReadsAt (s : List ℕ) (t : Rule) (at : ℕ) : Type 0 where
   pub to : ℕ
   pub read : readAt s t at ≡ got true (outOf (readAt s t at)) to
   pub inside : at ≤ length s
 
--- An element's name was read from a to b.
-pub record Named (s : List ℕ) (a b : ℕ) : Type 0 where
-  pub read : readAt s elementName a ≡ got true (outOf (readAt s elementName a)) b
+-- What the rule t reads at a ends at b.
+pub record ReadTo (s : List ℕ) (t : Rule) (a b : ℕ) : Type 0 where
+  pub read : readAt s t a ≡ got true (outOf (readAt s t a)) b
   pub inside : b ≤ length s
+
+-- An element's name was read from a to b.
+abbrev pub Named : List ℕ → (a b : ℕ) → Type 0
+Named s a b = ReadTo s elementName a b
 
 -- Whether two names that were read are equal, part for part and form for form.
 unfoldable pub sameNames : Forest → Forest → Bool
@@ -34,15 +37,17 @@ sameNames (group (node k x) c u) (byte b v) = false
 sameNames (group (node k x) c u) (group (content d) e v) = false
 sameNames (group (node k x) c u) (group (node l y) e v) = sameName k c l e
 
--- A member's name from one of its dots on.
-unfoldable pub dots : Rule
-dots = (expect "." ⨾ blanks ⨾ dottedPart) ⨾ many dotted
+-- What is behind the colon of a namespaced name, and behind a dot of a member's name.
+unfoldable pub behindColon : Rule
+behindColon = blanks ⨾ otherPart
 
--- It was read from p to b.
-pub record Dotted (s : List ℕ) (p b : ℕ) : Type 0 where
-  pub read : readAt s dots p ≡ got true (outOf (readAt s dots p)) b
-  pub inside : b ≤ length s
+unfoldable pub behindDot : Rule
+behindDot = blanks ⨾ dottedPart ⨾ many dotted
 
--- The bytes of each of its parts.
-abbrev pub partsFrom : List ℕ → ℕ → List (List ℕ)
-partsFrom s p = nodesOf (outOf (readAt s dots p))
+-- The bytes of each part that the rule t reads there.
+abbrev pub partsFrom : List ℕ → Rule → ℕ → List (List ℕ)
+partsFrom s t p = nodesOf (outOf (readAt s t p))
+
+-- Whether they are the same at two places.
+abbrev pub sameParts : List ℕ → Rule → (p q : ℕ) → Bool
+sameParts s t p q = allSame (partsFrom s t p) (partsFrom s t q)

@@ -5,12 +5,10 @@ ghost use lib.ListN.{length};
 ghost use Rattle.rules.specs.Parse.{readAt};
 ghost use Rattle.jsx.specs.Blank.{blanks};
 ghost use Rattle.jsx.specs.Name.{same, elementName, part as namePart};
-ghost use Rattle.jsx.specs.Closing.{allSame};
 ghost use Rattle.lex.specs.Contract.{outOf, bytesFrom, Past};
-ghost use Rattle.same.specs.Contract.{Reads, Named, sameNames, Dotted, partsFrom};
+ghost use Rattle.same.specs.Contract.{ReadsAt, ReadTo, Named, sameNames, behindColon, behindDot, sameParts};
 use lex::Ans;
-
-const COLON: u32 = b':' as u32;
+use lex::bytes::COLON;
 
 // Whether the bytes from a to b and from c to e are the same.
 pub fn same_bytes(s: &[u8], a: usize, b: usize, c: usize, e: usize) -> bool
@@ -26,18 +24,15 @@ pub fn same_bytes(s: &[u8], a: usize, b: usize, c: usize, e: usize) -> bool
 
 // The end of a part that was read before.
 fn part_end(s: &[u8], at: usize) -> usize
-    requires { ⌜ Reads (now s) namePart at ⌝ }
+    requires { ⌜ ReadsAt (now s) namePart at ⌝ }
     ensures { λ r. ⌜ Past r (now (s .entry)) namePart at 1 ⌝ }
 {
-    let Ans::Got(p, _) = word::parse_jsx_identifier(s, at) else {
-        return at; // never: it was read before
-    };
-    p
+    word::continue_lex_jsx_identifier(s, at)
 }
 
 // The end of blanks that were read before.
 fn blanks_end(s: &[u8], at: usize) -> usize
-    requires { ⌜ Reads (now s) blanks at ⌝ }
+    requires { ⌜ ReadsAt (now s) blanks at ⌝ }
     ensures { λ r. ⌜ Past r (now (s .entry)) blanks at 0 ⌝ }
 {
     let Ans::Got(p, _) = blank::skip_blanks(s, at) else {
@@ -46,16 +41,24 @@ fn blanks_end(s: &[u8], at: usize) -> usize
     p
 }
 
-// Whether two member names, from the dots at p and q to their ends b and d, have the same parts.
+// Whether two namespaced names, from behind the colons, at p and q, to their ends b and d, have the same second part.
+fn jsx_namespaced_name_eq(s: &[u8], p: usize, b: usize, q: usize, d: usize) -> bool
+    requires { ⌜ ReadTo (now s) behindColon p b × ReadTo (now s) behindColon q d ⌝ }
+    ensures { λ r. ⌜ r ≡ sameParts (now (s .entry)) behindColon p q ⌝ }
+{
+    same_bytes(s, blanks_end(s, p), b, blanks_end(s, q), d)
+}
+
+// Whether two member names, from behind dots, at p and q, to their ends b and d, have the same parts.
 fn jsx_member_expression_eq(s: &[u8], p: usize, b: usize, q: usize, d: usize) -> bool
-    requires { ⌜ Dotted (now s) p b × Dotted (now s) q d ⌝ }
-    ensures { λ r. ⌜ r ≡ allSame (partsFrom (now (s .entry)) p) (partsFrom (now (s .entry)) q) ⌝ }
+    requires { ⌜ ReadTo (now s) behindDot p b × ReadTo (now s) behindDot q d ⌝ }
+    ensures { λ r. ⌜ r ≡ sameParts (now (s .entry)) behindDot p q ⌝ }
 {
     let mut x = p;
     let mut y = q;
     loop {
-        let i = blanks_end(s, x + 1);
-        let j = blanks_end(s, y + 1);
+        let i = blanks_end(s, x);
+        let j = blanks_end(s, y);
         let g = part_end(s, i);
         let h = part_end(s, j);
         if !same_bytes(s, i, g, j, h) {
@@ -67,8 +70,8 @@ fn jsx_member_expression_eq(s: &[u8], p: usize, b: usize, q: usize, d: usize) ->
         if h == d {
             return false;
         }
-        x = blanks_end(s, g);
-        y = blanks_end(s, h);
+        x = blanks_end(s, g) + 1;
+        y = blanks_end(s, h) + 1;
     }
 }
 
@@ -77,6 +80,9 @@ pub fn jsx_element_name_eq(s: &[u8], a: usize, b: usize, c: usize, d: usize) -> 
     requires { ⌜ Named (now s) a b × Named (now s) c d ⌝ }
     ensures { λ r. ⌜ r ≡ sameNames (outOf (readAt (now (s .entry)) elementName a)) (outOf (readAt (now (s .entry)) elementName c)) ⌝ }
 {
+    if same_bytes(s, a, b, c, d) {
+        return true; // the common case: no part is read
+    }
     let e = part_end(s, a);
     let f = part_end(s, c);
     if !same_bytes(s, a, e, c, f) {
@@ -95,7 +101,7 @@ pub fn jsx_element_name_eq(s: &[u8], a: usize, b: usize, c: usize, d: usize) -> 
         return false;
     }
     if separator == COLON {
-        return same_bytes(s, blanks_end(s, p + 1), b, blanks_end(s, q + 1), d);
+        return jsx_namespaced_name_eq(s, p + 1, b, q + 1, d);
     }
-    jsx_member_expression_eq(s, p, b, q, d)
+    jsx_member_expression_eq(s, p + 1, b, q + 1, d)
 }
