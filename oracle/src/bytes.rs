@@ -1,0 +1,100 @@
+//! Bytes: UTF-8 and the classes of bytes.
+
+/// D: "The lead byte decides the length and the range of the second byte".
+/// The length of the sequence and the bounds of its second byte; `None` for a byte that leads nothing.
+fn led_by(lead: u8) -> Option<(usize, u8, u8)> {
+    match lead {
+        0x00..=0x7F => Some((1, 0, 0)),
+        0xC2..=0xDF => Some((2, 0x80, 0xBF)),
+        0xE0 => Some((3, 0xA0, 0xBF)),
+        0xE1..=0xEC | 0xEE..=0xEF => Some((3, 0x80, 0xBF)),
+        0xED => Some((3, 0x80, 0x9F)),
+        0xF0 => Some((4, 0x90, 0xBF)),
+        0xF1..=0xF3 => Some((4, 0x80, 0xBF)),
+        0xF4 => Some((4, 0x80, 0x8F)),
+        _ => None,
+    }
+}
+
+/// The length of the good sequence at the beginning of `rest`, which isn't empty.
+fn good_sequence(rest: &[u8]) -> Option<usize> {
+    let (length, low, high) = led_by(rest[0])?;
+    let sequence = rest.get(..length)?;
+    let second_is_good = length == 1 || (low..=high).contains(&sequence[1]);
+    // D: "Other continuation bytes are 80-BF."
+    let others_are_good = sequence.iter().skip(2).all(|b| (0x80..=0xBF).contains(b));
+    (second_is_good && others_are_good).then_some(length)
+}
+
+/// D: "offset where no good sequence begins". A18: the first byte of the sequence that isn't good.
+pub fn where_no_good_sequence_begins(input: &[u8]) -> Option<usize> {
+    let mut at = 0;
+    while at < input.len() {
+        match good_sequence(&input[at..]) {
+            Some(length) => at += length,
+            None => return Some(at),
+        }
+    }
+    None
+}
+
+/// D: "Blanks are tab, LF, VT, FF, CR and space, and comments" (the bytes; comments are the cursor's).
+pub fn is_blank_byte(byte: u8) -> bool {
+    matches!(byte, b'\t' | b'\n' | 0x0B | 0x0C | b'\r' | b' ')
+}
+
+/// D: "a letter, `_` or `$`". A7: letters are the ASCII letters.
+pub fn begins_a_name(byte: u8) -> bool {
+    byte.is_ascii_alphabetic() || byte == b'_' || byte == b'$'
+}
+
+/// D: "Names here: letters, digits, `_`, `$`" (in braces).
+pub fn continues_a_name(byte: u8) -> bool {
+    begins_a_name(byte) || byte.is_ascii_digit()
+}
+
+/// D: "then letters, digits, `_`, `$`, `-`" (in tags).
+pub fn continues_a_part(byte: u8) -> bool {
+    continues_a_name(byte) || byte == b'-'
+}
+
+/// D: "the longest nonempty run without `<` `>` `{` `}`".
+pub fn is_text(byte: u8) -> bool {
+    !matches!(byte, b'<' | b'>' | b'{' | b'}')
+}
+
+#[cfg(test)]
+mod tests {
+    use super::*;
+
+    /// The standard library's own check gives the same offset for every lead byte with chosen followers.
+    #[test]
+    fn utf8_is_the_standard_library_s() {
+        let followers = [
+            0x00, 0x41, 0x7F, 0x80, 0x8F, 0x90, 0x9F, 0xA0, 0xBF, 0xC0, 0xC2, 0xED, 0xF4, 0xFF,
+        ];
+        for lead in 0..=255u8 {
+            for a in followers {
+                for b in followers {
+                    for c in followers {
+                        for length in 1..=4 {
+                            let bytes = &[lead, a, b, c][..length];
+                            let theirs = std::str::from_utf8(bytes).err().map(|e| e.valid_up_to());
+                            assert_eq!(where_no_good_sequence_begins(bytes), theirs, "{bytes:?}");
+                        }
+                    }
+                }
+            }
+        }
+    }
+
+    #[test]
+    fn classes() {
+        let in_class = |f: fn(u8) -> bool| (0..=255u8).filter(|&b| f(b)).count();
+        assert_eq!(in_class(is_blank_byte), 6);
+        assert_eq!(in_class(begins_a_name), 54);
+        assert_eq!(in_class(continues_a_name), 64);
+        assert_eq!(in_class(continues_a_part), 65);
+        assert_eq!(in_class(is_text), 252);
+    }
+}

@@ -1,0 +1,561 @@
+//! A list of inputs, the same on every machine, with this oracle's answers.
+
+use crate::cases::Case;
+use crate::deep;
+use crate::forms::case_form;
+use crate::named;
+use crate::random::Random;
+use crate::table::{records, Node};
+use crate::writer::{Plan, Writer};
+use crate::Reading::{self, Run, Stage};
+use crate::{read, Answer, Limits, Refusal};
+use std::collections::BTreeMap;
+
+/// The faults that the writer can plant.
+const PLANTED: [u32; 13] = [2, 3, 4, 5, 6, 7, 8, 9, 10, 11, 12, 13, 16];
+const VALID: usize = 300;
+const PLANTED_EACH: usize = 50;
+const DAMAGED_EACH: usize = 220;
+const DEEP_WHOLE: usize = 160;
+const DEEP_TAILS: usize = 320;
+
+const ALPHABET: &[u8] = b"<>/{}a.-=\"'!() ";
+/// More bytes, for the short inputs after a beginning.
+const MORE: &[u8] = b"<>/{}a.-=\"',?:|&*+[(!1 ";
+
+/// Beginnings of stages, each a place where other tokens are allowed.
+const BEGINNINGS: [(&str, &str); 12] = [
+    ("tag-open", "<"),
+    ("tag-name", "<a"),
+    ("tag", "<a "),
+    ("attribute", "<a b"),
+    ("value", "<a b="),
+    ("value-element", "<a b=<c/>"),
+    ("spread", "<a {"),
+    ("after", "<a/>"),
+    ("closing", "<a></"),
+    ("braces", "<a>{"),
+    ("operand", "<a>{b"),
+    ("braces-element", "<a>{<b/>"),
+];
+
+pub fn corpus() -> Vec<Case> {
+    let mut cases = Vec::new();
+    named_inputs(&mut cases);
+    limits(&mut cases);
+    valid(&mut cases);
+    planted(&mut cases);
+    damaged(&mut cases);
+    deep_ones(&mut cases);
+    short(&mut cases);
+    short_after_beginnings(&mut cases);
+    cases
+}
+
+/// The count of cases by class, as rows of a table, with the sum.
+pub fn classes(cases: &[Case]) -> String {
+    let mut counts: BTreeMap<&str, [usize; 2]> = BTreeMap::new();
+    for case in cases {
+        let column = usize::from(case.reading == Run);
+        counts.entry(&case.class).or_default()[column] += 1;
+    }
+    let mut rows = String::from("| class | stages | runs |\n|---|---|---|\n");
+    for (class, [stages, runs]) in &counts {
+        rows += &format!("| {class} | {stages} | {runs} |\n");
+    }
+    let column = |n: usize| counts.values().map(|row| row[n]).sum::<usize>();
+    rows + &format!("| all {} | {} | {} |\n", cases.len(), column(0), column(1))
+}
+
+fn both_readings(cases: &mut Vec<Case>, class: &str, input: &[u8]) {
+    for reading in [Stage, Run] {
+        cases.push(Case::answered(reading, class, input.to_vec()));
+    }
+}
+
+fn named_inputs(cases: &mut Vec<Case>) {
+    for named in named::named() {
+        both_readings(cases, "named", &named.input);
+    }
+}
+
+/// Both ends of the limit of bytes. (15 has no place in a list of cases: no table is too small here.)
+fn limits(cases: &mut Vec<Case>) {
+    let bytes = Limits::default().bytes;
+    cases.push(Case::answered(Run, "limit", vec![b'a'; bytes]));
+    cases.push(Case::answered(Run, "limit", vec![b'a'; bytes + 1]));
+}
+
+/// One that the writer wrote: the bytes, the tree, and the refusal of a planted fault.
+struct Written {
+    bytes: Vec<u8>,
+    nodes: Vec<Node>,
+    planted: Option<Refusal>,
+}
+
+fn write(seed: u64, reading: Reading, plan: Option<Plan>) -> Written {
+    let mut writer = Writer::new(seed, plan);
+    let nodes = match reading {
+        Stage => writer.stage(),
+        Run => writer.run(),
+    };
+    Written {
+        planted: writer.planted,
+        bytes: writer.into_bytes(),
+        nodes,
+    }
+}
+
+fn written_valid(number: usize) -> (Reading, Written) {
+    let reading = if number % 5 < 3 { Stage } else { Run };
+    (reading, write(1_000_000 + number as u64, reading, None))
+}
+
+impl Written {
+    /// What the writer knows the answer to be.
+    fn known(&self) -> Answer {
+        match self.planted {
+            Some(Refusal { number, places }) => Answer::Refused { number, places },
+            None => Answer::Accepted(records(&self.nodes)),
+        }
+    }
+
+    /// The case; the reader's answer must be the writer's.
+    fn case(self, reading: Reading, class: &str) -> Case {
+        let known = case_form(&self.known());
+        let case = Case::answered(reading, class, self.bytes);
+        assert_eq!(case.answer, known, "{}", case.line());
+        case
+    }
+}
+
+fn valid(cases: &mut Vec<Case>) {
+    for number in 0..VALID {
+        let (reading, written) = written_valid(number);
+        cases.push(written.case(reading, "valid"));
+    }
+}
+
+/// Inputs with one fault after a valid beginning; seeds where the fault found no place are passed over.
+fn written_with(number: u32, how_many: usize) -> Vec<(Reading, Written)> {
+    let mut all = Vec::new();
+    let mut seed = 2_000_000 + 50_000 * u64::from(number);
+    while all.len() < how_many {
+        let chances = Random::seeded(seed).below(12);
+        let reading = if number == 13 || seed % 2 == 0 {
+            Stage
+        } else {
+            Run
+        };
+        let chances = if number == 13 { 0 } else { chances };
+        let written = write(seed, reading, Some(Plan { number, chances }));
+        if written.planted.is_some() {
+            all.push((reading, written));
+        }
+        seed += 1;
+    }
+    all
+}
+
+fn planted(cases: &mut Vec<Case>) {
+    for number in PLANTED {
+        let class = format!("planted-{number}");
+        for (reading, written) in written_with(number, PLANTED_EACH) {
+            cases.push(written.case(reading, &class));
+        }
+    }
+}
+
+type Damage = fn(&mut Random, &[u8]) -> Vec<u8>;
+
+const DAMAGES: [(&str, Damage); 9] = [
+    ("damaged-lost", lost),
+    ("damaged-flipped", flipped),
+    ("damaged-changed", changed),
+    ("damaged-cut", cut),
+    ("damaged-spliced", spliced),
+    ("damaged-doubled", doubled),
+    ("damaged-put-in", put_in),
+    ("damaged-swapped", swapped),
+    ("damaged-utf8", utf8),
+];
+
+fn damaged(cases: &mut Vec<Case>) {
+    for (class, damage) in DAMAGES {
+        for number in 0..DAMAGED_EACH {
+            let (reading, written) = written_valid(number);
+            let mut random = Random::seeded(3_000_000 + number as u64);
+            cases.push(Case::answered(
+                reading,
+                class,
+                damage(&mut random, &written.bytes),
+            ));
+        }
+    }
+}
+
+/// A span of the bytes, not longer than `longest`.
+fn span(random: &mut Random, bytes: &[u8], longest: usize) -> (usize, usize) {
+    let start = random.below(bytes.len() + 1);
+    let end = start + random.below(longest + 1);
+    (start, end.min(bytes.len()))
+}
+
+fn lost(random: &mut Random, bytes: &[u8]) -> Vec<u8> {
+    let (start, end) = span(random, bytes, 12);
+    [&bytes[..start], &bytes[end..]].concat()
+}
+
+fn flipped(random: &mut Random, bytes: &[u8]) -> Vec<u8> {
+    let mut bytes = bytes.to_vec();
+    if !bytes.is_empty() {
+        let at = random.below(bytes.len());
+        bytes[at] ^= 1 << random.below(8);
+    }
+    bytes
+}
+
+fn changed(random: &mut Random, bytes: &[u8]) -> Vec<u8> {
+    let mut bytes = bytes.to_vec();
+    if !bytes.is_empty() {
+        let at = random.below(bytes.len());
+        bytes[at] = MORE[random.below(MORE.len())];
+    }
+    bytes
+}
+
+fn cut(random: &mut Random, bytes: &[u8]) -> Vec<u8> {
+    bytes[..random.below(bytes.len() + 1)].to_vec()
+}
+
+/// The beginning of one and the end of another.
+fn spliced(random: &mut Random, bytes: &[u8]) -> Vec<u8> {
+    let (_, other) = written_valid(random.below(VALID));
+    let from = random.below(other.bytes.len() + 1);
+    [&cut(random, bytes)[..], &other.bytes[from..]].concat()
+}
+
+fn doubled(random: &mut Random, bytes: &[u8]) -> Vec<u8> {
+    let (start, end) = span(random, bytes, 12);
+    [&bytes[..end], &bytes[start..]].concat()
+}
+
+fn put_in(random: &mut Random, bytes: &[u8]) -> Vec<u8> {
+    let at = random.below(bytes.len() + 1);
+    let new: Vec<u8> = (0..=random.below(2))
+        .map(|_| MORE[random.below(MORE.len())])
+        .collect();
+    [&bytes[..at], &new, &bytes[at..]].concat()
+}
+
+/// Two spans that stand side by side change places.
+fn swapped(random: &mut Random, bytes: &[u8]) -> Vec<u8> {
+    let (start, middle) = span(random, bytes, 8);
+    let end = (middle + random.below(8)).min(bytes.len());
+    let (one, other) = (&bytes[start..middle], &bytes[middle..end]);
+    [&bytes[..start], other, one, &bytes[end..]].concat()
+}
+
+/// Sequences at both ends of what is good and of what isn't.
+const SEQUENCES: [&[u8]; 22] = [
+    b"\x7F",
+    b"\x80",
+    b"\xBF",
+    b"\xC1\xBF",
+    b"\xC2\x80",
+    b"\xDF\xBF",
+    b"\xDF\xC0",
+    b"\xE0\x9F\xBF",
+    b"\xE0\xA0\x80",
+    b"\xEC\xBF\xBF",
+    b"\xED\x9F\xBF",
+    b"\xED\xA0\x80",
+    b"\xEE\x80\x80",
+    b"\xEF\xBF\x7F",
+    b"\xF0\x8F\xBF\xBF",
+    b"\xF0\x90\x80\x80",
+    b"\xF3\xBF\xBF\xBF",
+    b"\xF4\x8F\xBF\xBF",
+    b"\xF4\x90\x80\x80",
+    b"\xF5\x80\x80\x80",
+    b"\xF1\x80\x80",
+    b"\xE2\x80",
+];
+
+fn utf8(random: &mut Random, bytes: &[u8]) -> Vec<u8> {
+    let at = random.below(bytes.len() + 1);
+    [&bytes[..at], random.one_of(&SEQUENCES), &bytes[at..]].concat()
+}
+
+fn deep_whole(number: usize) -> deep::Deep {
+    let mut random = Random::seeded(4_000_000 + number as u64);
+    deep::whole(&mut random, 61 + number % 7)
+}
+
+/// The bytes, held against the depth that they were made with.
+fn known_deep_whole(number: usize) -> Vec<u8> {
+    let deep = deep_whole(number);
+    match (read(&deep.bytes, Stage, Limits::default()), deep.refusal) {
+        (Answer::Accepted(_), None) => {}
+        (Answer::Refused { number: 14, places }, Some(refusal)) if places == refusal.places => {}
+        (answer, _) => panic!("{answer:?} {}", String::from_utf8_lossy(&deep.bytes)),
+    }
+    deep.bytes
+}
+
+fn deep_ones(cases: &mut Vec<Case>) {
+    for number in 0..DEEP_WHOLE {
+        both_readings(cases, "deep", &known_deep_whole(number));
+    }
+    for number in 0..DEEP_TAILS {
+        let mut random = Random::seeded(5_000_000 + number as u64);
+        cases.push(Case::answered(Stage, "deep-tail", deep::tail(&mut random)));
+    }
+}
+
+/// Every input of at most three bytes of the alphabet.
+fn short(cases: &mut Vec<Case>) {
+    for length in 0..=3 {
+        for input in all_of_length(ALPHABET, length) {
+            both_readings(cases, "short", &input);
+        }
+    }
+}
+
+/// Every two bytes after each of the beginnings.
+fn short_after_beginnings(cases: &mut Vec<Case>) {
+    for (name, beginning) in BEGINNINGS {
+        let class = format!("short-{name}");
+        for tail in all_of_length(MORE, 2) {
+            let input = [beginning.as_bytes(), &tail].concat();
+            cases.push(Case::answered(Stage, &class, input));
+        }
+    }
+}
+
+fn all_of_length(alphabet: &[u8], length: usize) -> Vec<Vec<u8>> {
+    let mut all = vec![Vec::new()];
+    for _ in 0..length {
+        all = all
+            .iter()
+            .flat_map(|input| alphabet.iter().map(|&byte| [&input[..], &[byte]].concat()))
+            .collect();
+    }
+    all
+}
+
+#[cfg(test)]
+mod tests {
+    use super::*;
+    use crate::table::Record;
+
+    fn answer(reading: Reading, input: &[u8]) -> Answer {
+        read(input, reading, Limits::default())
+    }
+
+    fn accepted(reading: Reading, input: &[u8]) -> Vec<Record> {
+        match answer(reading, input) {
+            Answer::Accepted(records) => records,
+            refused => panic!("{refused:?} for {}", String::from_utf8_lossy(input)),
+        }
+    }
+
+    fn moved(records: &[Record], offset: u32, number: u32) -> Vec<Record> {
+        let parent = |p: u32| if p == u32::MAX { p } else { p + number };
+        let one = |r: &Record| Record {
+            start: r.start + offset,
+            end: r.end + offset,
+            parent: parent(r.parent),
+            after: r.after + number,
+            ..*r
+        };
+        records.iter().map(one).collect()
+    }
+
+    #[test]
+    fn what_the_writer_wrote_is_read_as_the_tree_it_knows() {
+        for number in 0..4_000 {
+            let (reading, written) = written_valid(number);
+            assert!(written.planted.is_none());
+            written.case(reading, "valid");
+        }
+    }
+
+    #[test]
+    fn a_planted_fault_is_the_answer() {
+        for number in PLANTED {
+            for (reading, written) in written_with(number, 1_500) {
+                assert_eq!(written.planted.map(|refusal| refusal.number), Some(number));
+                written.case(reading, "planted");
+            }
+        }
+    }
+
+    #[test]
+    fn sixty_four_levels_are_good_and_the_sixty_fifth_is_refused() {
+        for number in 0..3_000 {
+            known_deep_whole(number);
+        }
+    }
+
+    /// Demand 3: joined runs are read as the first followed by the second, but a text meeting a text is one.
+    #[test]
+    fn joined_runs_are_read_as_their_readings() {
+        for number in 0..500u64 {
+            let [one, other] = [6_000_000 + 2 * number, 6_000_001 + 2 * number]
+                .map(|seed| write(seed, Run, None).bytes);
+            let [first, second] = [&one, &other].map(|bytes| accepted(Run, bytes));
+            let joined = accepted(Run, &[&one[..], &other[..]].concat());
+            let meets = first
+                .last()
+                .is_some_and(|r| r.kind == 14 && r.parent == u32::MAX)
+                && second.first().is_some_and(|r| r.kind == 14);
+            let mut expected = first.clone();
+            let base = if meets { first.len() - 1 } else { first.len() };
+            let second = moved(&second, one.len() as u32, base as u32);
+            if meets {
+                expected[base].end = second[0].end;
+                expected.extend(&second[1..]);
+            } else {
+                expected.extend(&second);
+            }
+            assert_eq!(joined, expected);
+        }
+    }
+
+    /// Demand 3: the content of any paired element or fragment may be replaced by any accepted run.
+    #[test]
+    fn content_may_be_replaced_by_a_run() {
+        for number in 0..500 {
+            let stage = write(8_000_000 + number, Stage, None).bytes;
+            let run = write(9_000_000 + number, Run, None).bytes;
+            let table = accepted(Stage, &stage);
+            for closing in (0..table.len()).filter(|&n| table[n].kind == 17) {
+                let start = table[table[closing].parent as usize + 1].end as usize;
+                let end = table[closing].start as usize;
+                let replaced = [&stage[..start], &run[..], &stage[end..]].concat();
+                let expected = with_content(&table, closing, &accepted(Run, &run), run.len());
+                assert_eq!(accepted(Stage, &replaced), expected);
+            }
+        }
+    }
+
+    /// The table after the content before the closing tag of that number is replaced by a run.
+    fn with_content(
+        table: &[Record],
+        closing: usize,
+        run: &[Record],
+        length: usize,
+    ) -> Vec<Record> {
+        let enclosing = table[closing].parent;
+        let opening = table[enclosing as usize + 1];
+        let first = opening.after as usize;
+        let close = table[closing].start;
+        let more_bytes = |offset: u32| offset - close + opening.end + length as u32;
+        let more_records = |number: u32| number - closing as u32 + (first + run.len()) as u32;
+        let mut new = table[..first].to_vec();
+        for record in new.iter_mut().filter(|r| r.after as usize > closing) {
+            record.end = more_bytes(record.end);
+            record.after = more_records(record.after);
+        }
+        for mut record in moved(run, opening.end, first as u32) {
+            if record.parent == u32::MAX {
+                record.parent = enclosing;
+            }
+            new.push(record);
+        }
+        for mut record in table[closing..].iter().copied() {
+            record.start = more_bytes(record.start);
+            record.end = more_bytes(record.end);
+            record.after = more_records(record.after);
+            if record.parent != u32::MAX && record.parent as usize >= closing {
+                record.parent = more_records(record.parent);
+            }
+            new.push(record);
+        }
+        new
+    }
+
+    /// The domain: an accepted run, wrapped, is an accepted stage with offsets more by 2.
+    #[test]
+    fn a_wrapped_run_is_the_content_of_a_fragment() {
+        for number in 0..500u64 {
+            let run = write(7_000_000 + number, Run, None).bytes;
+            let inside = accepted(Run, &run);
+            let stage = accepted(Stage, &[b"<>", &run[..], b"</>"].concat());
+            let mut expected = moved(&inside, 2, 2);
+            for record in expected.iter_mut().filter(|r| r.parent == u32::MAX) {
+                record.parent = 0;
+            }
+            assert_eq!(stage[2..stage.len() - 1], expected);
+        }
+    }
+
+    /// In every accepted case `after` and `parent` fit together and spans lie inside the parent's.
+    #[test]
+    fn tables_are_well_formed() {
+        for number in 0..500 {
+            let (reading, written) = written_valid(number);
+            let table = accepted(reading, &written.bytes);
+            for (number, record) in table.iter().enumerate() {
+                assert!(record.start <= record.end && record.end as usize <= written.bytes.len());
+                assert!(record.after as usize > number && record.after as usize <= table.len());
+                if let Some(parent) = table.get(record.parent as usize) {
+                    assert!((record.parent as usize) < number && record.after <= parent.after);
+                    assert!(parent.start <= record.start && record.end <= parent.end);
+                }
+            }
+        }
+    }
+
+    #[test]
+    fn every_number_and_kind_is_in_the_corpus() {
+        let cases = corpus();
+        let number = |case: &Case| {
+            case.answer
+                .split(':')
+                .next()
+                .unwrap()
+                .parse::<u32>()
+                .unwrap()
+        };
+        let mut numbers: Vec<u32> = cases.iter().map(number).collect();
+        numbers.sort();
+        numbers.dedup();
+        // 15 needs a table that is too small; the program's tests have it.
+        assert_eq!(
+            numbers,
+            [0, 1, 2, 3, 4, 5, 6, 7, 8, 9, 10, 11, 12, 13, 14, 16]
+        );
+        let mut kinds: Vec<u32> = cases.iter().flat_map(kinds_of).collect();
+        kinds.sort();
+        kinds.dedup();
+        assert_eq!(kinds, (1..=18).collect::<Vec<u32>>());
+    }
+
+    fn kinds_of(case: &Case) -> Vec<u32> {
+        let records = case.answer.rsplit(':').next().unwrap();
+        let kind = |record: &str| record.split(',').next().unwrap().parse().unwrap();
+        records
+            .split('|')
+            .filter(|r| !r.is_empty())
+            .map(kind)
+            .collect()
+    }
+
+    #[test]
+    fn the_readme_counts_the_classes() {
+        let readme = include_str!("../README.md");
+        assert!(readme.contains(&classes(&corpus())));
+    }
+
+    #[test]
+    fn lines_of_the_corpus_are_read_back() {
+        for case in corpus().iter().filter(|case| case.class != "limit") {
+            let back = Case::of_line(&case.line()).expect("a case");
+            assert_eq!((back.reading, &back.class), (case.reading, &case.class));
+            assert_eq!((&back.input, &back.answer), (&case.input, &case.answer));
+            assert_eq!(back.answer, case_form(&answer(back.reading, &back.input)));
+        }
+    }
+}

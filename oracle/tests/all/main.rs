@@ -1,0 +1,6 @@
+//! The tests of the oracle, in one program.
+
+mod limits;
+mod named;
+mod program;
+mod tables;

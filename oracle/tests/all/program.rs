@@ -1,0 +1,101 @@
+//! The batch, the program of document 01, and files of cases.
+
+use oracle::{batch, cases};
+
+fn item(letter: u8, bytes: &[u8]) -> Vec<u8> {
+    let length = (bytes.len() as u32).to_le_bytes();
+    [&[letter], &length[..], bytes].concat()
+}
+
+fn answers(input: &[u8]) -> String {
+    let mut output = Vec::new();
+    batch::batch(input, &mut output).expect("writing to memory");
+    String::from_utf8(output).expect("ASCII")
+}
+
+#[test]
+fn a_batch_answers_item_after_item() {
+    let input = [
+        item(b's', b"<v></w>"),
+        item(b'r', b"hi"),
+        item(b'r', b""),
+        item(b's', b""),
+    ];
+    let expected = "no 7 1 2 5 6\nok 1\n0 14 0 2 - 1 0\nok 0\nno 4 0 0 0 0\n";
+    assert_eq!(answers(&input.concat()), expected);
+    assert_eq!(answers(b""), "");
+}
+
+#[test]
+fn a_bad_item_ends_the_batch() {
+    let good = item(b's', b"");
+    let line = "no 4 0 0 0 0\n";
+    for bad in [
+        &b"x"[..],
+        b"S\0\0\0\0",
+        b"s",
+        b"s\x01\0\0",
+        b"s\x02\0\0\0<",
+        b"r\xFF\xFF\xFF\xFF<",
+    ] {
+        assert_eq!(answers(bad), "bad item 0\n");
+        let input = [&good[..], bad].concat();
+        assert_eq!(answers(&input), format!("{line}bad item 1\n"));
+    }
+    let after = [&b"x"[..], &good].concat();
+    assert_eq!(answers(&after), "bad item 0\n");
+}
+
+#[test]
+fn an_item_that_is_too_long_is_refused_and_passed_over() {
+    let long = vec![b'<'; 1_048_577];
+    let input = [item(b'r', &long), item(b'r', &long[1..]), item(b'r', b"")].concat();
+    assert_eq!(answers(&input), "no 1 0 0 0 0\nno 3 1 1 0 0\nok 0\n");
+}
+
+#[test]
+fn a_batch_holds_131072_records() {
+    let first_line = |input: &str| {
+        let lines = answers(&item(b'r', input.as_bytes()));
+        lines.lines().next().unwrap_or("").to_string()
+    };
+    // Two records for each `{}`, one for a text.
+    let braces = "{}".repeat(65_536);
+    assert_eq!(first_line(&braces), "ok 131072");
+    assert_eq!(first_line(&format!("x{braces}")), "no 15 131073 0 0 0");
+}
+
+#[test]
+fn the_program_prints_with_its_limits() {
+    assert_eq!(
+        batch::stage(b"<a/>"),
+        "ok 3\n0 1 0 4 - 3 0\n1 18 0 4 0 3 0\n2 3 1 2 1 3 0\n"
+    );
+    assert_eq!(batch::stage(b"<v></w>"), "no 7 1 2 5 6\n");
+    assert_eq!(batch::stage(b""), "no 4 0 0 0 0\n");
+    let padded = |length: usize| format!("<a/>{}", " ".repeat(length - 4)).into_bytes();
+    assert!(batch::stage(&padded(65_536)).starts_with("ok 3\n"));
+    assert_eq!(batch::stage(&padded(65_537)), "no 1 0 0 0 0\n");
+}
+
+#[test]
+fn the_program_has_2048_records() {
+    // A fragment's own three records, two for each `{}`, one for a text.
+    let filled = |braces: usize, text: &str| format!("<>{}{text}</>", "{}".repeat(braces));
+    assert!(batch::stage(filled(1_022, "x").as_bytes()).starts_with("ok 2048\n"));
+    assert_eq!(
+        batch::stage(filled(1_023, "").as_bytes()),
+        "no 15 2049 0 0 0\n"
+    );
+}
+
+#[test]
+fn cases_are_held_against_the_answers() {
+    let good = "S named 3c763e3c2f773e 7:1,2:5,6:0:\nR named - 0:0,0:0,0:0:\n";
+    let held = cases::hold(good);
+    assert_eq!((held.cases, held.differences.len()), (2, 0));
+    let wrong = "S named 3c763e3c2f773e 7:1,2:5,7:0:\nS named - 0:0,0:0,0:0:\nS named 3 4:0,0:0,0:0:\nhello\n";
+    let held = cases::hold(wrong);
+    assert_eq!((held.cases, held.differences.len()), (4, 4));
+    assert!(held.differences[0].starts_with("line 1: Stage named \"<v></w>\""));
+}
