@@ -30,6 +30,8 @@ pub const COLON: u32 = b':' as u32;
 
 pub const LESS: u32 = b'<' as u32;
 
+pub const EQUALS: u32 = b'=' as u32;
+
 pub const GREATER: u32 = b'>' as u32;
 
 pub const UPPER_A: u32 = b'A' as u32;

@@ -81,7 +81,7 @@ fn object_kind(s: &[u8], a: usize, b: usize) -> usize
 }
 
 // The row of a one-part name from a to b, where a table is lent.
-fn put_name(t: &mut [u32], s: &[u8], slot: Slot, a: usize, b: usize)
+pub fn put_name(t: &mut [u32], s: &[u8], slot: Slot, a: usize, b: usize)
     requires { ⌜ Room 4 (now s) a slot × (a < b) × (b ≤ length (now s)) ⌝ }
     ensures { λ _. ⌜ Spelt 0 slot (oneName (bytesFrom (now (s .entry)) a (b - a))) a b (now (t .entry)) (now (t .exit)) ⌝ }
 {

@@ -69,18 +69,21 @@ abbrev pub run : Test → Rule
 run f = many (when f ⇒ step ∣ stop)
 
 module _ (s : List ℕ) (F e p : ℕ) where
-  test-step : (f : Test) (u : Rule) → f (byteAt s p) ≡ true → p < length s
+  -- A byte that passes a test is passed.
+  pub test-step : (f : Test) (u : Rule) → f (byteAt s p) ≡ true → p < length s
       → parse s F (when f step u) e p ≡ got true (byte (byteAt s p) nil) (p + 1)
   unfolding parse
   test-step f u t i = rw (t, lt-ltb p (length s) i)
 
-  test-stop : (f : Test) (t : Rule) → f (byteAt s p) ≡ false → parse s F (when f t stop) e p ≡ got false nil p
+  -- One that fails it ends the run.
+  pub test-stop : (f : Test) (t : Rule) → f (byteAt s p) ≡ false → parse s F (when f t stop) e p ≡ got false nil p
   unfolding parse
   test-stop f t h = rw h
 
 -- A byte that passes a test, and a rule behind it.
 module _ (f : Test) (u : Rule) (s : List ℕ) (at : ℕ) where
-  front-got : f (byteAt s at) ≡ true → at < length s → {o : Forest} {p : ℕ} → readAt s u (at + 1) ≡ got true o p
+  -- It is here, and the rule behind it reads on.
+  pub front-got : f (byteAt s at) ≡ true → at < length s → {o : Forest} {p : ℕ} → readAt s u (at + 1) ≡ got true o p
       → readAt s ((when f ⇒ step ∣ need) ⨾ u) at ≡ got true (byte (byteAt s at) nil ⋈ o) p
   unfolding parse
   front-got h i e = rw (h, lt-ltb at (length s) i) (ap (behind (byte (byteAt s at) nil)) e)
