@@ -414,11 +414,12 @@ module _ {s : List ℕ} {c : ℕ} {q : Slot} (room : Room 3 s c q) where
       let far = l .of .far _ _ h in
       omega arith
 
--- The names that are compared were read.
+-- The opening name that is compared was read.
 pub named-opened : {s : List ℕ} {o : Opened} → Opening s o → {u : List ℕ} {x y : ℕ} → x ≡ o .start → y ≡ o .end → u ≡ s
     → Named u x y
 named-opened v e f g = rw (e, f, g) (v .read)
 
+-- So was the closing name.
 pub named-closing : {r : Ans} {s : List ℕ} {p k : ℕ} {q : Slot} {i f j : ℕ} {t t′ : List ℕ}
     → Made r s elementName p k q i t t′
     → r ≡ Got f j

@@ -37,10 +37,11 @@ use Rattle.tag.proofs.Rules.{goes-expect, goes-close, goes-sibling}
 
 -- Two leaves, one after the other.
 module _ {s : List ℕ} {t u : Rule} {at i : ℕ} {r : Ans} (l : Leaf nothing r s t at i) (k : ℕ) where
-  -- The first refuses; it does not.
+  -- The first refuses.
   pub two-stop : {n a b c d : ℕ} → r ≡ No n a b c d → Leaf nothing r s (t ⨾ u) at k
   two-stop h = Lex.leaf-stop nothing s (t ⨾ u) at k h (seq-no s (suc (length s)) t 0 at (Lex.leaf-no l h) u)
 
+  -- It does not: the second decides.
   pub two-are : {r₂ : Ans} {p m j : ℕ} → goes t ≡ true → r ≡ Got p m → Leaf nothing r₂ s u p j
       → k ≤ i + j
       → Leaf nothing r₂ s (t ⨾ u) at k
@@ -50,18 +51,19 @@ module _ {s : List ℕ} {t u : Rule} {at i : ℕ} {r : Ans} (l : Leaf nothing r 
       (Lex.seq-is s (suc (length s)) 0 at t u (Lex.leaf-got go l h)) (omega arith)
 
 module _ {s : List ℕ} {at : ℕ} (c : ℕ) {r : Ans} where
-  -- The byte is not there; it is.
+  -- The byte is not there.
   pub open-stops : {n a b g d : ℕ} → Leaf nothing r s (expectByte c) at 1 → r ≡ No n a b g d
       → Leaf nothing r s (openBy c) at 1
   unfolding openBy
   open-stops l h = two-stop l 1 h
 
+  -- It is there.
   pub open-is : {r₂ : Ans} {p j : ℕ} → Leaf nothing r s (expectByte c) at 1 → r ≡ Got p j → Leaf nothing r₂ s blanks p 0
       → Leaf nothing r₂ s (openBy c) at 1
   unfolding openBy
   open-is l h l₂ = two-are l 1 (goes-expect c) h l₂ (omega arith)
 
-  -- The blanks refuse; they are passed.
+  -- The blanks refuse.
   pub close-stops : {n a b g d : ℕ}
       → Leaf nothing r s blanks at 0
       → r ≡ No n a b g d
@@ -69,6 +71,7 @@ module _ {s : List ℕ} {at : ℕ} (c : ℕ) {r : Ans} where
   unfolding closeBy
   close-stops l h = two-stop l 1 h
 
+  -- They are passed.
   pub close-is : {r₂ : Ans} {p j : ℕ}
       → Leaf nothing r s blanks at 0
       → r ≡ Got p j
@@ -119,24 +122,25 @@ module _ {s : List ℕ} {at b : ℕ} (y : b ≡ byteAt s at) where
   end-missing h g l =
       let F = suc (length s) in
       let fails = Lex.need-fails s at in
-      let here = Lex.leaf-refuses {k = 1} l
-      (sym (Lex.when-no s F 0 at (is "/") (pass ⨾ expect ">" ⨾ stop) (expect ">") (Lex.byte-not y g)
-      ∙ Lex.when-no s F 0 at (is ">") step need (Lex.byte-not y h))) fails in
+      let other : readAt s need at ≡ readAt s tagEnd at =
+      sym (Lex.when-no s F 0 at (is "/") (pass ⨾ expect ">" ⨾ stop) (expect ">") (Lex.byte-not y g)
+      ∙ Lex.when-no s F 0 at (is ">") step need (Lex.byte-not y h)) in
+      let here = Lex.leaf-refuses {k = 1} l other fails in
       record {
-        is = l .is ∙ same-view nothing goesOn (readAt s need at) fails ∙ ap (view goesOn)
-            (sym (Lex.when-no s F 0 at (is "/") (pass ⨾ expect ">" ⨾ stop) (expect ">") (Lex.byte-not y g)
-            ∙ Lex.when-no s F 0 at (is ">") step need (Lex.byte-not y h)));
+        is = l .is ∙ same-view nothing goesOn (readAt s need at) fails ∙ ap (view goesOn) other;
         far = here .far;
       }
 
   -- `/`.
   module _ (h : b ≡ code "/") {r : Ans} (l : Leaf nothing r s (closeBy (code ">")) (at + 1) 1) where
+    -- What is behind it refuses.
     pub end-stops : {n a c d e : ℕ} → r ≡ No n a c d e → Leaf goesOn r s tagEnd at 1
     end-stops x =
         Lex.leaf-stop goesOn s tagEnd at 1 x
         (at-slash s at (sym y ∙ h) ∙ ap (behind (byte (byteAt s at) nil))
         (seq-no s (suc (length s)) (closeBy (code ">")) 0 (at + 1) (Lex.leaf-no l x) stop))
 
+    -- It is there, and the tag stops.
     pub end-slash : {p j q : ℕ} → r ≡ Got p j → q ≡ p → Leaf goesOn (Got q 0) s tagEnd at 1
     unfolding parse
     end-slash {p} x e =
@@ -147,8 +151,9 @@ module _ {s : List ℕ} {at b : ℕ} (y : b ≡ byteAt s at) where
         (Lex.leaf-got (goes-close (code ">")) l x)))
         refl (omega arith))
 
--- What its number says: the tag goes on, or it stops.
+-- What its number says.
 module _ {r : Ans} {s : List ℕ} {at : ℕ} (l : Leaf goesOn r s tagEnd at 1) {p : ℕ} where
+  -- The tag goes on.
   pub end-goes : r ≡ Got p 1 → readAt s tagEnd at ≡ got true (outOf (readAt s tagEnd at)) p
   end-goes h = go (Lex.view-got goesOn (readAt s tagEnd at) (l .is) h)
     where
@@ -157,6 +162,7 @@ module _ {r : Ans} {s : List ℕ} {at : ℕ} (l : Leaf goesOn r s tagEnd at 1) {
       go (true, e, n) = e
       go (false, e, n) = absurd (omega arith)
 
+  -- It stops.
   pub end-single : r ≡ Got p 0 → readAt s tagEnd at ≡ got false (outOf (readAt s tagEnd at)) p
   end-single h = go (Lex.view-got goesOn (readAt s tagEnd at) (l .is) h)
     where
@@ -212,11 +218,13 @@ module _ {s : List ℕ} {at : ℕ} (n : ℕ) {r : Ans} (l : Leaf nothing r s bla
           rw (ea, ec)
           (Lex.leaf-stop nothing s (noSibling n) at 0 refl (once ∙ rw e (ap (behind (outOf (readAt s blanks at))) k)))
 
+      -- `<<`.
       pub sibling-less : {a c : ℕ} → f ≡ true → a ≡ p → c ≡ p → Leaf nothing (No n a c 0 0) s (noSibling n) at 0
       unfolding sibling parse
       sibling-less k ea ec = let e = sym i ∙ k in refuses (rw e) ea ec
 
       module _ (k : f ≡ false) {g : Bool} (o : g ≡ opens s (code "<" ∷ code "=" ∷ []) p) where
+        -- `<=`.
         pub sibling-equals : {a c : ℕ} → g ≡ true → a ≡ p → c ≡ p → Leaf nothing (No n a c 0 0) s (noSibling n) at 0
         unfolding sibling parse
         sibling-equals z ea ec =
@@ -224,6 +232,7 @@ module _ {s : List ℕ} {at : ℕ} (n : ℕ) {r : Ans} (l : Leaf nothing r s bla
             let e₂ = sym o ∙ z in
             refuses (rw (e₁, e₂)) ea ec
 
+        -- Any other.
         pub sibling-adjacent : {a c : ℕ} → g ≡ false → a ≡ p → c ≡ p + 1
             → Leaf nothing (No 12 a c 0 0) s (noSibling n) at 0
         unfolding sibling parse
