@@ -135,7 +135,7 @@ fn put_part(t: &mut [u32], s: &[u8], k: usize, slot: Slot, a: usize, b: usize)
     if t.len() == 0 {
         return;
     }
-    let dash = word::dashed(s, a, b);
+    let extra = word::dashed(s, a, b);
     table::put_node_at(
         t,
         k,
@@ -144,7 +144,7 @@ fn put_part(t: &mut [u32], s: &[u8], k: usize, slot: Slot, a: usize, b: usize)
             kind: OTHER_PART,
             start: a,
             end: b,
-            extra: dash,
+            extra: extra,
             below: 0,
         },
     );
