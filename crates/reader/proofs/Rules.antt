@@ -1,0 +1,224 @@
+-- Rules that go on, and rules that read bytes alone: those of the definition that a reader reads, and the pieces of them.
+use mathlib.Core.Path.{_≡_, refl}
+use mathlib.Core.Bool.{true}
+use Prim.Native.Nat.{ℕ, zero, suc}
+use Rattle.rules.proofs.Run.{goes}
+use Rattle.jsx.specs.Byte.{need, expect}
+use Rattle.jsx.specs.Blank.{blank, blanks, comment, commentTurn, lineComment, lineTurn, pass}
+use Rattle.jsx.specs.Name.{part, otherPart, namespaced, attributeName}
+use Rattle.jsx.specs.Text.{text, quoted, quotedBy}
+use Rattle.jsx.specs.Word.{word, primaryWord, number, whole, fraction, digits, string, stringBy, stringTurn}
+use Rattle.jsx.specs.Expression.{Inner, noSibling, sibling, primary, unary, either, both, sum}
+use Rattle.jsx.specs.Expression.{product, joined, question, conditional, expression}
+use Rattle.jsx.specs.Braces.{dots, closeContainer, container, emptyBraces, spread}
+use Rattle.jsx.specs.Tag.{value, initializer, namedAttribute, attribute, attributes}
+use Rattle.jsx.specs.Element.{children}
+use Rattle.jsx.specs.Depth.{elementTooDeep, within}
+use Rattle.jsx.proofs.Goes.{InnerGoes, unary-goes, conditional-goes, within-goes}
+use Rattle.lex.specs.Contract.{expectByte}
+use Rattle.lex.proofs.Bare.{bare}
+use Rattle.tag.specs.Token.{closeBy}
+use Rattle.token.specs.Token.{operator, suffixed, comma, assigned, attributeAt, parted, dotsOn, shutBraces, dotWord}
+use Rattle.reader.specs.Cut.{groupBy, arguments, tailOf, armsOf, inContainer, inSpread, inAttribute}
+
+-- ---- bytes alone
+
+-- A byte and blanks are bytes alone.
+pub bare-pass : bare pass ≡ true
+unfolding bare pass blanks blank comment commentTurn lineComment lineTurn
+bare-pass = refl
+
+-- They go on.
+pub goes-pass : goes pass ≡ true
+unfolding goes pass blanks
+goes-pass = refl
+
+-- A name that is a primary is bytes alone,
+pub bare-primary-word : bare primaryWord ≡ true
+unfolding bare primaryWord word need
+bare-primary-word = refl
+
+-- so is a number,
+pub bare-number : bare number ≡ true
+unfolding bare number whole fraction digits
+bare-number = refl
+
+-- and a string.
+pub bare-string : bare string ≡ true
+unfolding bare string stringBy stringTurn
+bare-string = refl
+
+-- So is a byte.
+pub bare-expect : (c : ℕ) → bare (expectByte c) ≡ true
+unfolding bare need
+bare-expect c = refl
+
+-- So is what refuses.
+pub bare-need : bare need ≡ true
+unfolding bare need
+bare-need = refl
+
+pub bare-too-deep : bare elementTooDeep ≡ true
+unfolding bare elementTooDeep pass blanks blank comment commentTurn lineComment lineTurn need
+bare-too-deep = refl
+
+-- An operator with its blanks is bytes alone;
+pub bare-operator : bare operator ≡ true
+unfolding bare operator blanks blank comment commentTurn lineComment lineTurn Rattle.jsx.specs.Expression.times
+    Rattle.jsx.specs.Expression.plusMinus Rattle.jsx.specs.Expression.andAnd Rattle.jsx.specs.Expression.orOr
+bare-operator = refl
+
+-- so are the blanks before a suffix,
+pub bare-suffixed : bare suffixed ≡ true
+unfolding bare suffixed blanks blank comment commentTurn lineComment lineTurn
+bare-suffixed = refl
+
+-- a comma,
+pub bare-comma : bare comma ≡ true
+unfolding bare comma pass blanks blank comment commentTurn lineComment lineTurn
+bare-comma = refl
+
+-- an attribute's `=`,
+pub bare-assigned : bare assigned ≡ true
+unfolding bare assigned expect need blanks blank comment commentTurn lineComment lineTurn
+bare-assigned = refl
+
+-- the blanks before an attribute,
+pub bare-attribute-at : bare attributeAt ≡ true
+unfolding bare attributeAt blanks blank comment commentTurn lineComment lineTurn
+bare-attribute-at = refl
+
+-- a conditional's `:`,
+pub bare-parted : bare parted ≡ true
+unfolding bare parted expect need blanks blank comment commentTurn lineComment lineTurn
+bare-parted = refl
+
+pub goes-parted : goes parted ≡ true
+unfolding goes parted expect need blanks
+goes-parted = refl
+
+-- the dots of a spread,
+pub bare-dots : bare dotsOn ≡ true
+unfolding bare dotsOn dots need blanks blank comment commentTurn lineComment lineTurn
+bare-dots = refl
+
+pub goes-dots : goes dotsOn ≡ true
+unfolding goes dotsOn dots need blanks
+goes-dots = refl
+
+-- the end of `{expression}`,
+pub bare-shut-braces : bare shutBraces ≡ true
+unfolding bare shutBraces closeContainer expect need blanks blank comment commentTurn lineComment lineTurn
+bare-shut-braces = refl
+
+pub goes-shut-braces : goes shutBraces ≡ true
+unfolding goes shutBraces closeContainer expect need blanks
+goes-shut-braces = refl
+
+-- and `.name`.
+pub bare-dot-word : bare dotWord ≡ true
+unfolding bare dotWord expect need word blanks blank comment commentTurn lineComment lineTurn
+bare-dot-word = refl
+
+-- ---- rules that go on, with whatever may be entered
+
+pub goes-attribute-name : goes attributeName ≡ true
+unfolding goes attributeName namespaced otherPart part blanks expect need
+goes-attribute-name = refl
+
+pub goes-text : goes text ≡ true
+unfolding goes text
+goes-text = refl
+
+pub goes-empty-braces : goes emptyBraces ≡ true
+unfolding goes emptyBraces blanks expect need
+goes-empty-braces = refl
+
+module _ (d : ℕ) where
+  abbrev n : Inner
+  n = within d
+
+  abbrev h : InnerGoes (within d)
+  h = within-goes d
+
+  pub goes-unary : goes (unary (within d)) ≡ true
+  goes-unary = unary-goes n h
+
+  pub goes-cond : goes (conditional (within d)) ≡ true
+  goes-cond = conditional-goes n h
+
+  pub goes-primary : goes (primary (within d)) ≡ true
+  unfolding goes primary primaryWord word number whole fraction digits string stringBy need
+  goes-primary = rw (h .paren)
+
+  pub goes-either : goes (either (within d)) ≡ true
+  unfolding goes either both sum product joined
+  goes-either = rw goes-unary
+
+  pub goes-question : goes (question (within d)) ≡ true
+  unfolding goes question
+  goes-question = rw (h .choice)
+
+  pub goes-expression : goes (expression (within d)) ≡ true
+  unfolding goes expression
+  goes-expression = goes-cond
+
+  pub goes-group : (c : ℕ) → goes (groupBy c d) ≡ true
+  unfolding goes groupBy closeBy pass blanks need
+  goes-group c = go d
+    where
+      go : (x : ℕ) → goes (groupBy c x) ≡ true
+      go zero = refl
+      go (suc x) = rw (conditional-goes (within x) (within-goes x))
+
+  pub goes-arguments : goes (arguments (within d)) ≡ true
+  unfolding goes arguments expect need
+  goes-arguments = rw goes-cond
+
+  pub goes-tail : goes (tailOf (within d)) ≡ true
+  unfolding goes tailOf dotWord expect need word blanks
+  goes-tail = rw (h .bracket, h .call)
+
+  pub goes-arms : goes (armsOf (within d)) ≡ true
+  unfolding goes armsOf parted expect need blanks
+  goes-arms = rw goes-cond
+
+  pub goes-in-container : goes (inContainer (within d)) ≡ true
+  unfolding goes inContainer
+  goes-in-container = rw (goes-expression, goes-shut-braces)
+
+  pub goes-in-spread : goes (inSpread (within d)) ≡ true
+  unfolding goes inSpread closeBy need blanks
+  goes-in-spread = rw (goes-dots, goes-expression)
+
+  pub goes-container : goes (container (within d)) ≡ true
+  unfolding goes container closeContainer pass blanks expect need
+  goes-container = rw goes-expression
+
+  pub goes-spread : (x : ℕ) → goes (spread x (within d)) ≡ true
+  unfolding goes spread dots pass blanks expect need
+  goes-spread x = rw goes-expression
+
+  pub goes-value : goes (value (within d)) ≡ true
+  unfolding goes value quoted quotedBy noSibling sibling blanks need
+  goes-value = rw (h .valueBraces, h .element)
+
+  pub goes-in-attribute : goes (inAttribute (within d)) ≡ true
+  unfolding goes inAttribute initializer blanks expect need
+  goes-in-attribute = rw (goes-attribute-name, goes-value)
+
+  pub goes-attribute : goes (attribute (within d)) ≡ true
+  unfolding goes attribute namedAttribute initializer blanks expect need
+  goes-attribute = rw (h .spreadBraces, goes-attribute-name, goes-value)
+
+  pub goes-attributes : goes (attributes (within d)) ≡ true
+  unfolding goes attributes
+  goes-attributes = refl
+
+  pub goes-children : goes (children (within d)) ≡ true
+  unfolding goes children
+  goes-children = refl
+
+  pub goes-lone : (x : ℕ) → goes (Rattle.rules.specs.Rule.seq (within d .element) (noSibling x)) ≡ true
+  unfolding goes noSibling sibling blanks
+  goes-lone x = rw (h .element)

@@ -1,0 +1,14 @@
+-- Rules that go on, and rules that read bytes alone.
+pub mod Rules
+-- Answers of leaves: the same by another rule, and what a number that tells of a stop says.
+pub mod Told
+-- A level that is entered, and an element with no level left.
+pub mod EnterSteps
+-- An operator, alone and with the blanks around it.
+pub mod OperatorSteps
+-- What stands between two readers: a comma, `=`, `:` and the like, each with its blanks.
+pub mod BetweenSteps
+-- A text, and empty braces, with their rows.
+pub mod BracesSteps
+-- The end of an element or a fragment, with its row.
+pub mod ShutSteps

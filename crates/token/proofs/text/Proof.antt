@@ -1,0 +1,18 @@
+use Rattle.token.proofs.text.Statement.{statement}
+use Rattle.token.proofs.text.Tie as tie
+use Rattle.token.proofs.BracesSteps.{text-steps}
+
+read-jsx-text-requires : tie.Need-read-jsx-text-requires
+read-jsx-text-requires c κs = search text-steps
+
+put-node-requires : tie.Need-put-node-requires
+put-node-requires c κs = search text-steps
+
+same-length : tie.Need-same-length
+same-length c = search text-steps
+
+returns : tie.Need-returns
+returns c = search text-steps
+
+pub text-spec : {M : Type 1} → statement M
+text-spec = tie.close (tie.spec read-jsx-text-requires put-node-requires same-length returns)
