@@ -34,7 +34,7 @@ use Rattle.tag.specs.Close.{Opening}
 use Rattle.reader.specs.declared.Tagged.{Tagged}
 use Rattle.reader.specs.declared.Tagged.the-variants as T
 use Rattle.reader.specs.Contract.{plain, TagMade, Ready}
-use Rattle.reader.proofs.Rules as R
+use Rattle.token.proofs.Rules as K
 use Rattle.reader.proofs.Steps.{cycle-asked, node-asked}
 
 -- ---- bytes that were seen
@@ -49,7 +49,8 @@ module _ (s : List ℕ) (at : ℕ) {b : ℕ} (e : b ≡ byteAt s at) where
   seen-byte u h f g = rw (f, g) (sym e ∙ h)
 
   -- So is what a test of it says.
-  pub seen-name : {t : Bool} (u : List ℕ) {y : ℕ} → t ≡ opensName b → t ≡ true → y ≡ at → u ≡ s → opensName (byteAt u y) ≡ true
+  pub seen-name : {t : Bool} (u : List ℕ) {y : ℕ} → t ≡ opensName b → t ≡ true → y ≡ at → u ≡ s
+      → opensName (byteAt u y) ≡ true
   seen-name u h i f g = rw (f, g) (Lex.tested opensName e h i)
 
   pub seen-digit : {t : Bool} (u : List ℕ) {y : ℕ} → t ≡ digit b → t ≡ true → y ≡ at → u ≡ s → digit (byteAt u y) ≡ true
@@ -58,7 +59,8 @@ module _ (s : List ℕ) (at : ℕ) {b : ℕ} (e : b ≡ byteAt s at) where
   pub seen-quote : {t : Bool} (u : List ℕ) {y : ℕ} → t ≡ quote b → t ≡ true → y ≡ at → u ≡ s → quote (byteAt u y) ≡ true
   seen-quote u h i f g = rw (f, g) (Lex.tested quote e h i)
 
-  pub seen-text : {t : Bool} (u : List ℕ) {y : ℕ} → t ≡ inText b → t ≡ true → y ≡ at → u ≡ s → inText (byteAt u y) ≡ true
+  pub seen-text : {t : Bool} (u : List ℕ) {y : ℕ} → t ≡ inText b → t ≡ true → y ≡ at → u ≡ s
+      → inText (byteAt u y) ≡ true
   seen-text u h i f g = rw (f, g) (Lex.tested inText e h i)
 
 -- A byte that was seen where a reader stands is within the input.
@@ -99,7 +101,7 @@ pub passed : {r : Ans} {s : List ℕ} {at p j : ℕ} → Leaf nothing r s pass a
     → u ≡ s
     → x ≡ at
     → Past y u pass x 1
-passed l h e f g = rw (e, f, g) (record { is = Lex.leaf-got R.goes-pass l h; far = l .far _ _ h })
+passed l h e f g = rw (e, f, g) (record { is = Lex.leaf-got K.goes-pass l h; far = l .far _ _ h })
 
 -- That is handed on.
 pub passed-on : {s : List ℕ} {at p k : ℕ} {x : Rule} → Past p s x at k
@@ -110,7 +112,8 @@ pub passed-on : {s : List ℕ} {at p k : ℕ} {x : Rule} → Past p s x at k
 passed-on l e f g = rw (e, f, g) l
 
 -- A place behind a leaf and one more byte.
-pub leaf-one-more : {c : ℕ} {s : List ℕ} {at : ℕ} {q : Slot} {w : Bool → Forest → ℕ} {r : Ans} {g : Rule} {x k p j y : ℕ}
+pub leaf-one-more : {c : ℕ} {s : List ℕ} {at : ℕ} {q : Slot} {w : Bool → Forest → ℕ} {r : Ans} {g : Rule}
+    {x k p j y : ℕ}
     → Room c s at q
     → Leaf w r s g x k
     → r ≡ A.Got p j
@@ -121,7 +124,8 @@ leaf-one-more room l h e =
     let short = room .short in
     omega arith
 
-module _ {c : ℕ} {s : List ℕ} {at : ℕ} {q : Slot} (room : Room c s at q) {p k : ℕ} {g : Rule} (l : Past p s g at k) where
+module _ {c : ℕ} {s : List ℕ} {at : ℕ} {q : Slot} (room : Room c s at q) {p k : ℕ}
+    {g : Rule} (l : Past p s g at k) where
   -- Room inside the record here, behind bytes that were passed.
   pub past-room : {d : ℕ} {u : List ℕ} {y : ℕ} {q₁ : Slot}
       → c + 1 ≤ d + 2 * k
@@ -254,14 +258,17 @@ pub ruleset content-asked = (
 
 -- ---- an element
 
-module _ {s : List ℕ} {at : ℕ} {q : Slot} (room : Room 3 s at q) {a : ℕ} (pa : Past a s pass at 1) (t : List ℕ) {q₂ : Slot}
-    {r : Tagged} {n : Inner} {t₁ t₂ : List ℕ} (l : TagMade r s n a q₂ t₁ t₂) {z m e k g : ℕ} (h : r ≡ T.Got z m e k g) where
+module _ {s : List ℕ} {at : ℕ} {q : Slot} (room : Room 3 s at q) {a : ℕ} (pa : Past a s pass at 1) (t : List ℕ)
+    {q₂ : Slot}
+    {r : Tagged} {n : Inner} {t₁ t₂ : List ℕ} (l : TagMade r s n a q₂ t₁ t₂)
+    {z m e k g : ℕ} (h : r ≡ T.Got z m e k g) where
   tag-far : (2 * a + m ≤ 2 * z) × (z ≤ length s) × (a + 2 ≤ z)
   unfolding plain
   tag-far = l .made .of .far z m (ap plain h)
 
   -- The words of its opening tag are numbers,
-  pub tag-words : {q₃ : Slot} {x y w : ℕ} → q₃ ≡ slotInside q → x ≡ at → y ≡ z → w ≡ m → Words q₃ Kind.openingTag x y 0 w
+  pub tag-words : {q₃ : Slot} {x y w : ℕ} → q₃ ≡ slotInside q → x ≡ at → y ≡ z → w ≡ m
+      → Words q₃ Kind.openingTag x y 0 w
   tag-words f₁ f₂ f₃ f₄ =
       let far = tag-far in
       let fp = pa .far in
@@ -294,7 +301,8 @@ module _ {s : List ℕ} {at : ℕ} {q : Slot} (room : Room 3 s at q) {a : ℕ} (
       omega arith
 
   -- The name was read.
-  pub tag-opening : {u : List ℕ} {o : Opened} → u ≡ s → o ≡ record { at = at; start = a; end = e; count = k } → Opening u o
+  pub tag-opening : {u : List ℕ} {o : Opened} → u ≡ s → o ≡ record { at = at; start = a; end = e; count = k }
+      → Opening u o
   tag-opening f i =
       let fp = pa .far in
       let name = l .name z m e k g h in
@@ -362,7 +370,8 @@ module _ {s : List ℕ} {at : ℕ} {q : Slot} (room : Room 3 s at q) {a : ℕ} (
         rw (f₁, f₂, f₃) (omega arith)
 
     -- Room for its children.
-    pub fragment-room : {u : List ℕ} {y : ℕ} {q₁ q₂ : Slot} → q₁ ≡ slotInside q → q₂ ≡ slotBehind 1 q₁ → u ≡ s → y ≡ a + 1
+    pub fragment-room : {u : List ℕ} {y : ℕ} {q₁ q₂ : Slot} → q₁ ≡ slotInside q → q₂ ≡ slotBehind 1 q₁ → u ≡ s
+        → y ≡ a + 1
         → Room 3 u y q₂
     fragment-room f₁ f₂ f₃ f₄ =
         let fp = pa .far in

@@ -38,15 +38,18 @@ use Rattle.table.specs.Slot.{slotInside, slotBehind}
 use Rattle.table.specs.Contract.{Start, Stored}
 use Rattle.table.specs.Reader.{Room, Made}
 use Rattle.table.proofs.Made.{made-as, made-lent, refused}
-use Rattle.table.proofs.Upto.{Upto, upto-begin, upto-as, upto-bare, upto-no, leaf-stops, leaf-goes, read-goes, made-stops}
+use Rattle.table.proofs.Upto.{Upto, upto-begin, upto-as, upto-bare, upto-no, leaf-stops, leaf-goes, read-goes}
+use Rattle.table.proofs.Upto.{made-stops}
 use Rattle.table.proofs.Upto.{last-made, last-made-stops, upto-made}
 use Rattle.tag.specs.Token.{closeBy, goesOn}
 use Rattle.tag.proofs.Rules.{goes-close, bare-close}
 use Rattle.token.specs.Token.{assigned, dotsOn, shutBraces}
+use Rattle.token.proofs.Told.{told-goes, told-stop}
 use Rattle.reader.specs.Cut.{inContainer, inSpread, inAttribute}
+use Rattle.token.proofs.Rules as K
 use Rattle.reader.proofs.Rules as R
 use Rattle.reader.proofs.Levels as L
-use Rattle.reader.proofs.Steps.{Wraps, Holds, node-is, on-goes, on-stops, leaf-made-as}
+use Rattle.reader.proofs.Steps.{Wraps, Holds, node-is, leaf-made-as}
 use Rattle.reader.proofs.ExpressionSteps.{reader-first, reader-leaf, reader-leaf-refuses}
 
 -- ---- which rules are nodes
@@ -82,7 +85,7 @@ module _ (s : List ℕ) (d at : ℕ) where
   held-wraps l = record {
     within = pass ⨾ inContainer (within d);
     node = refl;
-    here = λ q i t. past-upto (inContainer (within d)) q i t R.bare-pass l;
+    here = λ q i t. past-upto (inContainer (within d)) q i t K.bare-pass l;
     on = R.goes-in-container d;
     few = λ o z e. let f = nodes-far (thrift d .container) s 0 at e in omega arith;
   }
@@ -97,7 +100,8 @@ module _ (s : List ℕ) (d at : ℕ) where
   spread-node k =
       wrap-answer s F (λ o. node k 0) (pass ⨾ dots ⨾ blanks ⨾ expression (within d) ⨾ blanks ⨾ expect "}") 0 at
       ∙ ap (nodeAround k)
-      (L.seq-under s pass (dots ⨾ blanks ⨾ expression (within d) ⨾ blanks ⨾ expect "}") (inSpread (within d)) at spread-cut)
+      (L.seq-under s pass (dots ⨾ blanks ⨾ expression (within d) ⨾ blanks ⨾ expect "}")
+      (inSpread (within d)) at spread-cut)
       ∙ sym (wrap-answer s F (λ o. node k 0) (pass ⨾ inSpread (within d)) 0 at)
 
   -- `{...expression}` is a node around it.
@@ -105,7 +109,7 @@ module _ (s : List ℕ) (d at : ℕ) where
   spread-wraps k l = record {
     within = pass ⨾ inSpread (within d);
     node = spread-node k;
-    here = λ q i t. past-upto (inSpread (within d)) q i t R.bare-pass l;
+    here = λ q i t. past-upto (inSpread (within d)) q i t K.bare-pass l;
     on = R.goes-in-spread d;
     few = λ o z e. let f = nodes-far (thrift d .spread k) s 0 at e in omega arith;
   }
@@ -181,14 +185,14 @@ module _ (d : ℕ) {s : List ℕ} {at : ℕ} {c : ℕ} {q : Slot} (room : Room c
     pub held-refuses-behind : {t′ : List ℕ} {x a b g y : ℕ} → r₂ ≡ No x a b g y
         → Made r₂ s (inContainer (within d)) at 2 q 0 t t′
     held-refuses-behind h₂ =
-        reader-leaf-refuses held-begun (R.goes-expression d) l R.goes-shut-braces R.bare-shut-braces h l₂ h₂
+        reader-leaf-refuses held-begun (R.goes-expression d) l K.goes-shut-braces K.bare-shut-braces h l₂ h₂
 
     -- It is read.
     pub held-is : {z i y x : ℕ} → r₂ ≡ Got z i → y ≡ z → x ≡ m → Made (Got y x) s (inContainer (within d)) at 2 q 0 t t₁
     held-is h₂ f g =
         let far = l .of .far _ _ h in
         let far₂ = l₂ .far _ _ h₂ in
-        reader-leaf held-begun (R.goes-expression d) l R.goes-shut-braces R.bare-shut-braces h l₂ 2 h₂ (omega arith) f g
+        reader-leaf held-begun (R.goes-expression d) l K.goes-shut-braces K.bare-shut-braces h l₂ 2 h₂ (omega arith) f g
 
 pub ruleset in-held-steps = (held-refuses, held-refuses-behind, held-is)
 
@@ -207,7 +211,7 @@ module _ (d : ℕ) {s : List ℕ} {at : ℕ} {c : ℕ} {q : Slot} (room : Room c
   module _ {p j : ℕ} (h : r ≡ Got p j) {r₂ : Ans} {t₁ : List ℕ} (l₂ : Made r₂ s (expression (within d)) p 1 q 0 t t₁)
     where
       spread-dots : Upto s (inSpread (within d)) at q 0 t (expression (within d) ⨾ closeBy (code "}")) p 0 t
-      spread-dots = leaf-goes spread-begun l R.goes-dots R.bare-dots h
+      spread-dots = leaf-goes spread-begun l K.goes-dots K.bare-dots h
 
       -- The expression refuses.
       pub spread-refuses-inside : {t′ : List ℕ} {x a b g y : ℕ} → r₂ ≡ No x a b g y
@@ -219,10 +223,12 @@ module _ (d : ℕ) {s : List ℕ} {at : ℕ} {c : ℕ} {q : Slot} (room : Room c
         pub spread-refuses-behind : {t′ : List ℕ} {x a b g y : ℕ} → r₃ ≡ No x a b g y
             → Made r₃ s (inSpread (within d)) at 2 q 0 t t′
         spread-refuses-behind h₃ =
-            reader-leaf-refuses spread-dots (R.goes-expression d) l₂ (goes-close (code "}")) (bare-close (code "}")) h₂ l₃ h₃
+            reader-leaf-refuses spread-dots (R.goes-expression d) l₂ (goes-close (code "}"))
+            (bare-close (code "}")) h₂ l₃ h₃
 
         -- It is read.
-        pub spread-is : {z i y x : ℕ} → r₃ ≡ Got z i → y ≡ z → x ≡ m → Made (Got y x) s (inSpread (within d)) at 2 q 0 t t₁
+        pub spread-is : {z i y x : ℕ} → r₃ ≡ Got z i → y ≡ z → x ≡ m
+            → Made (Got y x) s (inSpread (within d)) at 2 q 0 t t₁
         spread-is h₃ f g =
             let far = l .far _ _ h in
             let far₂ = l₂ .of .far _ _ h₂ in
@@ -248,7 +254,8 @@ pub passed-over : {s : List ℕ} {at p k : ℕ} {x : Rule} → Past p s x at k
 passed-over {s} {at} {x = x} l f t u = after-got s (suc (length s)) x 0 at (l .is) f t u
 
 -- A leaf for blanks that has got something has passed them.
-pub leaf-passes : {r : Ans} {s : List ℕ} {at k p j : ℕ} {x : Rule} → goes x ≡ true → Leaf nothing r s x at k → r ≡ Got p j
+pub leaf-passes : {r : Ans} {s : List ℕ} {at k p j : ℕ} {x : Rule} → goes x ≡ true → Leaf nothing r s x at k
+    → r ≡ Got p j
     → Past p s x at k
 leaf-passes go l h = record { is = Lex.leaf-got go l h; far = l .far _ _ h }
 
@@ -301,14 +308,14 @@ module _ (d : ℕ) (s : List ℕ) (at : ℕ) {b : ℕ} (y : b ≡ byteAt s at) w
           braces-there : readAt s (value (within d)) at
               ≡ pick (is "}" (byteAt s p)) (readAt s emptyValueBraces at) (readAt s (container (within (d - 1))) at)
           braces-there =
-              in-braces ∙ L.value-braces-is s at d deep ∙ passed-over (leaf-passes R.goes-pass l h) (is "}") _ _
+              in-braces ∙ L.value-braces-is s at d deep ∙ passed-over (leaf-passes K.goes-pass l h) (is "}") _ _
 
           -- They are empty: 11.
           pub value-empty : {q : Slot} {t t′ : List ℕ} {z : ℕ} → b₂ ≡ code "}" → z ≡ p + 1
               → Made (No 11 at z 0 0) s (value (within d)) at 1 q 0 t t′
           value-empty x₃ f =
               let e = Lex.byte-is y₂ x₃ in
-              rw f (refused (braces-there ∙ rw e (empty-value (leaf-passes R.goes-pass l h) (sym y₂ ∙ x₃))) refl)
+              rw f (refused (braces-there ∙ rw e (empty-value (leaf-passes K.goes-pass l h) (sym y₂ ∙ x₃))) refl)
 
           -- `{expression}`.
           pub value-held : {q : Slot} {t t′ : List ℕ} {r₂ : Ans} → (b₂ ≡ code "}" → ⊥)
@@ -371,7 +378,8 @@ module _ (d : ℕ) (s : List ℕ) (at : ℕ) where
   initial-goes {o} {p} e = by (readAt s blanks at) e
     where
       by : (x : Answer)
-          → andThen x (λ a u q. pick (is "=" (byteAt s q)) (readAt s (blanks ⨾ expect "=" ⨾ blanks) at) (got false nil at))
+          → andThen x
+          (λ a u q. pick (is "=" (byteAt s q)) (readAt s (blanks ⨾ expect "=" ⨾ blanks) at) (got false nil at))
           ≡ got true o p
           → andThen x (λ a u q. pick (is "=" (byteAt s q))
           (readAt s (blanks ⨾ expect "=" ⨾ blanks ⨾ value (within d)) at) (got true nil at))
@@ -393,7 +401,8 @@ module _ (d : ℕ) (s : List ℕ) (at : ℕ) where
   initial-stops {o} {p} e = by (readAt s blanks at) e
     where
       by : (x : Answer)
-          → andThen x (λ a u q. pick (is "=" (byteAt s q)) (readAt s (blanks ⨾ expect "=" ⨾ blanks) at) (got false nil at))
+          → andThen x
+          (λ a u q. pick (is "=" (byteAt s q)) (readAt s (blanks ⨾ expect "=" ⨾ blanks) at) (got false nil at))
           ≡ got false o p
           → andThen x (λ a u q. pick (is "=" (byteAt s q))
           (readAt s (blanks ⨾ expect "=" ⨾ blanks ⨾ value (within d)) at) (got true nil at))
@@ -416,7 +425,8 @@ module _ (d : ℕ) (s : List ℕ) (at : ℕ) where
   initial-no {n} {a} {b} {c} {e} f = by (readAt s blanks at) f
     where
       by : (x : Answer)
-          → andThen x (λ a u q. pick (is "=" (byteAt s q)) (readAt s (blanks ⨾ expect "=" ⨾ blanks) at) (got false nil at))
+          → andThen x
+          (λ a u q. pick (is "=" (byteAt s q)) (readAt s (blanks ⨾ expect "=" ⨾ blanks) at) (got false nil at))
           ≡ trouble n a b c e
           → andThen x (λ a u q. pick (is "=" (byteAt s q))
           (readAt s (blanks ⨾ expect "=" ⨾ blanks ⨾ value (within d)) at) (got true nil at))
@@ -438,7 +448,8 @@ module _ (d : ℕ) {s : List ℕ} {at : ℕ} {c : ℕ} {q : Slot} (room : Room c
   in-attr-begun = upto-begin (inAttribute (within d)) q 0 t (room .inside)
 
   -- The name refuses.
-  pub in-attr-refuses : {t′ : List ℕ} {x a b g y : ℕ} → r ≡ No x a b g y → Made r s (inAttribute (within d)) at 1 q 0 t t′
+  pub in-attr-refuses : {t′ : List ℕ} {x a b g y : ℕ} → r ≡ No x a b g y
+      → Made r s (inAttribute (within d)) at 1 q 0 t t′
   in-attr-refuses h = refused (made-stops in-attr-begun l h) h
 
   module _ {e k : ℕ} (h : r ≡ Got e k) {r₂ : Ans} (l₂ : Leaf goesOn r₂ s assigned e 0) where
@@ -457,16 +468,16 @@ module _ (d : ℕ) {s : List ℕ} {at : ℕ} {c : ℕ} {q : Slot} (room : Room c
       in-attr-alone n f g =
           let far = l .of .far _ _ h in
           rw (f, g)
-          (upto-made 1 (upto-as in-attr-named {h = done} (initial-stops d s e (on-stops l₂ h₂ n))) (omega arith))
+          (upto-made 1 (upto-as in-attr-named {h = done} (initial-stops d s e (told-stop l₂ h₂ n))) (omega arith))
 
       module _ (n : j ≡ 0 → ⊥) {a : ℕ} (st : Start (length t₁) (6 * k) a) {q₂ : Slot} (eq : q₂ ≡ slotBehind k q)
           {r₃ : Ans} {u : List ℕ} (l₃ : Made r₃ s (value (within d)) p 1 q₂ 0 (midOf a (length t₁ - a) t₁) u) where
         in-attr-value : Upto s (inAttribute (within d)) at q 0 t (value (within d)) p k t₁
         in-attr-value =
-            let on = on-goes l₂ h₂ n in
+            let on = told-goes l₂ h₂ n in
             upto-bare in-attr-named _ (initial-goes d s e on) (wide-got s (suc (length s)) assigned 0 e on)
             (l₂ .far _ _ h₂ .1)
-            (count-flat _ (flat-got s (suc (length s)) assigned 0 e R.bare-assigned on))
+            (count-flat _ (flat-got s (suc (length s)) assigned 0 e K.bare-assigned on))
 
         -- The value refuses.
         pub in-attr-refuses-inside : {t′ : List ℕ} {x a b g y : ℕ} → r₃ ≡ No x a b g y
@@ -482,7 +493,8 @@ module _ (d : ℕ) {s : List ℕ} {at : ℕ} {c : ℕ} {q : Slot} (room : Room c
             let far₂ = l₂ .far _ _ h₂ in
             let far₃ = l₃ .of .far _ _ h₃ in
             rw (f, g)
-            (upto-made 1 (last-made in-attr-value (made-lent t₁ st l₃ w) (R.goes-value d) eq (omega arith) h₃) (omega arith))
+            (upto-made 1 (last-made in-attr-value (made-lent t₁ st l₃ w) (R.goes-value d) eq (omega arith) h₃)
+            (omega arith))
 
 pub ruleset in-attr-steps = (
   in-attr-refuses,

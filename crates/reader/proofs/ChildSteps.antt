@@ -37,9 +37,11 @@ use Rattle.table.specs.Slot.{slotBehind, rowsFrom}
 use Rattle.table.specs.Contract.{Start}
 use Rattle.table.specs.Reader.{counted, Room, Made}
 use Rattle.table.proofs.Made.{made-as, made-no, made-got, made-lent, refused, made-done}
-use Rattle.table.proofs.Upto.{Upto, upto-begin, upto-as, upto-more, upto-count, loop-on, loop-out, loop-stops, upto-made}
+use Rattle.table.proofs.Upto.{Upto, upto-begin, upto-as, upto-more, upto-count, loop-on, loop-out, loop-stops}
+use Rattle.table.proofs.Upto.{upto-made}
 use Rattle.table.proofs.Upto.{same-slot}
 use Rattle.reader.specs.Contract.{ChildMade}
+use Rattle.token.proofs.Rules as K
 use Rattle.reader.proofs.Rules as R
 use Rattle.reader.proofs.Levels as L
 use Rattle.reader.proofs.Steps.{Loop, loop-begins}
@@ -130,11 +132,12 @@ module _ (d : ℕ) (s : List ℕ) (at : ℕ) {b : ℕ} (y : b ≡ byteAt s at) w
   not-tag h x = not-last h ∙ Lex.when-no s (suc (length s)) 0 at (is "<") _ (tagless d) (sym (ap (is "<") y) ∙ x)
 
   -- A text.
-  pub child-text : {q : Slot} {t t′ : List ℕ} {f : Bool} {r : Ans} → f ≡ inText b → f ≡ true → Made r s text at 1 q 0 t t′
+  pub child-text : {q : Slot} {t t′ : List ℕ} {f : Bool} {r : Ans} → f ≡ inText b → f ≡ true
+      → Made r s text at 1 q 0 t t′
       → ChildMade r s (within d) at q t t′
   child-text e x l =
       let p = plainly b (sym e ∙ x) in
-      child-of (within d) l (omega arith) R.goes-text
+      child-of (within d) l (omega arith) K.goes-text
       (not-tag (p .last) (p .less)
       ∙ Lex.when-no s (suc (length s)) 0 at (is "{") _ _ (sym (ap (is "{") y) ∙ p .brace)
       ∙ Lex.when-yes s (suc (length s)) 0 at inText text _ (Lex.tested inText y e x))
@@ -154,7 +157,7 @@ module _ (d : ℕ) (s : List ℕ) (at : ℕ) {b : ℕ} (y : b ≡ byteAt s at) w
       module _ {a j : ℕ} (h : r ≡ Got a j) {b₂ : ℕ} (y₂ : b₂ ≡ byteAt s a) where
         behind-less : readAt s (child (within d)) at
             ≡ pick (is "/" (byteAt s a)) (readAt s stop at) (readAt s (within d .element) at)
-        behind-less = at-less ∙ passed-over (leaf-passes R.goes-pass l h) (is "/") _ _
+        behind-less = at-less ∙ passed-over (leaf-passes K.goes-pass l h) (is "/") _ _
 
         -- A closing tag: the children end before it.
         pub child-closing : {q : Slot} {t : List ℕ} {z : ℕ} → b₂ ≡ code "/" → z ≡ at
@@ -199,7 +202,7 @@ module _ (d : ℕ) (s : List ℕ) (at : ℕ) {b : ℕ} (y : b ≡ byteAt s at) w
               (pick (is "." (byteAt s p)) (readAt s (spread Kind.spreadChild (within (d - 1))) at)
               (readAt s (container (within (d - 1))) at))
           behind-brace =
-              let passed = leaf-passes R.goes-pass l h in
+              let passed = leaf-passes K.goes-pass l h in
               at-brace ∙ L.child-braces-is s at d deep ∙ passed-over passed (is "}") _ _
               ∙ ap (pick (is "}" (byteAt s p)) (readAt s emptyBraces at)) (passed-over passed (is ".") _ _)
 
@@ -208,7 +211,7 @@ module _ (d : ℕ) (s : List ℕ) (at : ℕ) {b : ℕ} (y : b ≡ byteAt s at) w
               → ChildMade r₂ s (within d) at q t t′
           child-empty x₃ l₂ =
               let e = Lex.byte-is y₂ x₃ in
-              child-of (within d) l₂ (omega arith) R.goes-empty-braces (behind-brace ∙ rw e)
+              child-of (within d) l₂ (omega arith) K.goes-empty-braces (behind-brace ∙ rw e)
 
           module _ (x₃ : b₂ ≡ code "}" → ⊥) where
             -- `{...expression}`.
@@ -231,7 +234,8 @@ module _ (d : ℕ) (s : List ℕ) (at : ℕ) {b : ℕ} (y : b ≡ byteAt s at) w
 
     module _ (x₂ : b ≡ code "{" → ⊥) where
       -- The input ends.
-      pub child-last : {q : Slot} {t : List ℕ} {c : ℕ} → Room c s at q → b ≡ 256 → ChildMade (Got at 0) s (within d) at q t t
+      pub child-last : {q : Slot} {t : List ℕ} {c : ℕ} → Room c s at q → b ≡ 256
+          → ChildMade (Got at 0) s (within d) at q t t
       unfolding child parse
       child-last room h =
           let e = Lex.byte-is y h in
@@ -267,7 +271,8 @@ pub ruleset child-steps = (
 
 module _ (d : ℕ) {s : List ℕ} {c at : ℕ} {q : Slot} {t₀ : List ℕ} {p m : ℕ} (t : List ℕ)
     (v : Loop c s (children (within d)) at q t₀ p m t) {a : ℕ} (st : Start (length t) (6 * m) a) {q₂ : Slot}
-    (eq : q₂ ≡ slotBehind m q) {r : Ans} {u : List ℕ} (l : ChildMade r s (within d) p q₂ (midOf a (length t - a) t) u) where
+    (eq : q₂ ≡ slotBehind m q) {r : Ans}
+    {u : List ℕ} (l : ChildMade r s (within d) p q₂ (midOf a (length t - a) t) u) where
   kids-left : Upto s (children (within d)) at q 0 t₀ (many (child (within d))) p m t
   unfolding children
   kids-left = v .here

@@ -22,6 +22,7 @@ use Rattle.jsx.proofs.Ladder.{flatTurn, flatEither, either-flat}
 use Rattle.lex.proofs.Bare.{goes-blanks}
 use Rattle.token.specs.Token.{operator, suffixed, comma, attributeAt, dotWord}
 use Rattle.reader.specs.Cut.{tailOf, operandTurn}
+use Rattle.token.proofs.Rules as K
 use Rattle.reader.proofs.Rules as R
 use Rattle.reader.proofs.Levels.{seq-under}
 use Rattle.reader.proofs.Steps.{Loops, Turns, Splits, Begins, begins}
@@ -92,11 +93,12 @@ module _ (s : List ℕ) (d : ℕ) where
   more-loops = record {
     turn = argumentTurn n;
     is = refl;
-    same = λ p h. seq-under s blanks (when (is ",") (pass ⨾ conditional n) stop) (when (is ",") pass stop ⨾ conditional n) p
+    same = λ p h. seq-under s blanks (when (is ",") (pass ⨾ conditional n) stop)
+        (when (is ",") pass stop ⨾ conditional n) p
         (λ q. when-seq s q (is ",") pass stop (pass ⨾ conditional n) stop (conditional n) refl
         (stop-seq s q (conditional n)))
         ∙ sym (seq-assoc s (suc (length s)) blanks (when (is ",") pass stop) (conditional n) 0 p);
-    bytes = R.bare-comma;
+    bytes = K.bare-comma;
     on = R.goes-cond d;
   }
 
@@ -111,7 +113,7 @@ module _ (s : List ℕ) (d : ℕ) where
         (λ q. when-seq s q (is "/" or is ">") stop done stop (attribute n) (attribute n) (stop-seq s q (attribute n))
         (done-seq s q (attribute n)))
         ∙ sym (seq-assoc s (suc (length s)) blanks (when (is "/" or is ">") stop done) (attribute n) 0 p);
-    bytes = R.bare-attribute-at;
+    bytes = K.bare-attribute-at;
     on = R.goes-attribute d;
   }
 
@@ -122,7 +124,7 @@ module _ (s : List ℕ) (d : ℕ) where
     turn = operandTurn n;
     is = refl;
     same = λ p h. refl;
-    bytes = R.bare-operator;
+    bytes = K.bare-operator;
     on = R.goes-unary d;
   }
 
@@ -182,7 +184,8 @@ tail-cut s i p = by (readAt s blanks p) refl
 
     by : (x : Answer) → readAt s blanks p ≡ x → Same
     by (got a o q) e =
-        three o q (going s (suc (length s)) blanks 0 p goes-blanks e) (is "." (byteAt s q)) refl (is "[" (byteAt s q)) refl
+        three o q (going s (suc (length s)) blanks 0 p goes-blanks e) (is "." (byteAt s q)) refl
+        (is "[" (byteAt s q)) refl
         (is "(" (byteAt s q)) refl
     by (trouble a b c d f) e = rw e
 
@@ -192,7 +195,7 @@ tails-loops s d = record {
   turn = postfixTurn (within d);
   is = refl;
   same = λ p h. tail-cut s (within d) p;
-  bytes = R.bare-suffixed;
+  bytes = K.bare-suffixed;
   on = R.goes-tail d;
 }
 

@@ -27,7 +27,7 @@ use Rattle.table.proofs.Made.{made-as, refused}
 use Rattle.table.proofs.Upto.{Upto, upto-begin}
 use Rattle.table.proofs.Upto.{made-stops}
 use Rattle.tag.proofs.Rules.{goes-sibling, bare-sibling}
-use Rattle.reader.proofs.Rules as R
+use Rattle.token.proofs.Rules as K
 use Rattle.reader.proofs.Levels as L
 use Rattle.reader.proofs.Steps.{leaf-made-as}
 use Rattle.reader.proofs.ExpressionSteps.{reader-leaf, reader-leaf-refuses}
@@ -56,7 +56,7 @@ module _ (d : ℕ) {s : List ℕ} {at : ℕ} where
   pub element-too-deep : {q : Slot} {t : List ℕ} {r : Ans} → d ≡ 0 → Leaf nothing r s elementTooDeep at 1
       → Made r s (within d .element) at 1 q 0 t t
   element-too-deep h l =
-      leaf-made-as (within d .element) 1 R.bare-too-deep l (sym (L.element-deep s at d h)) (omega arith)
+      leaf-made-as (within d .element) 1 K.bare-too-deep l (sym (L.element-deep s at d h)) (omega arith)
 
   module _ (deep : d ≡ 0 → ⊥) {a : ℕ} (l : Past a s pass at 1) {b : ℕ} (y : b ≡ byteAt s a) where
     -- A fragment.
@@ -65,7 +65,8 @@ module _ (d : ℕ) {s : List ℕ} {at : ℕ} where
         → Made r s (within d .element) at 1 q 0 t t′
     element-fragment x l₂ =
         let e = Lex.byte-is y x in
-        made-as l₂ (within d .element) 1 (sym (L.element-is s at d deep ∙ passed-over l (is ">") _ _ ∙ rw e)) (omega arith)
+        made-as l₂ (within d .element) 1 (sym (L.element-is s at d deep ∙ passed-over l (is ">") _ _ ∙ rw e))
+        (omega arith)
 
     -- An element with a name.
     pub element-named : {q : Slot} {t t′ : List ℕ} {r : Ans} → (b ≡ code ">" → ⊥)
@@ -73,7 +74,8 @@ module _ (d : ℕ) {s : List ℕ} {at : ℕ} where
         → Made r s (within d .element) at 1 q 0 t t′
     element-named x l₂ =
         let e = Lex.byte-not y x in
-        made-as l₂ (within d .element) 1 (sym (L.element-is s at d deep ∙ passed-over l (is ">") _ _ ∙ rw e)) (omega arith)
+        made-as l₂ (within d .element) 1 (sym (L.element-is s at d deep ∙ passed-over l (is ">") _ _ ∙ rw e))
+        (omega arith)
 
 pub ruleset element-steps = (element-too-deep, element-fragment, element-named)
 
@@ -84,7 +86,8 @@ module _ (d n : ℕ) {s : List ℕ} {at : ℕ} {c : ℕ} {q : Slot} (room : Room
   -- The blanks refuse.
   pub lone-refuses : {t′ : List ℕ} {x a b g y : ℕ} → r ≡ No x a b g y
       → Made r s (within d .element ⨾ noSibling n) at 1 q 0 t t′
-  lone-refuses h = refused (seq-no s (suc (length s)) (within d .element) 0 at (element-no s at d (Lex.leaf-no l h)) _) h
+  lone-refuses h = refused
+      (seq-no s (suc (length s)) (within d .element) 0 at (element-no s at d (Lex.leaf-no l h)) _) h
 
   module _ {a j : ℕ} (h : r ≡ Got a j) {r₂ : Ans} {t₁ : List ℕ} (l₂ : Made r₂ s (within d .element) at 1 q 0 t t₁) where
     lone-begun : Upto s (within d .element ⨾ noSibling n) at q 0 t (within d .element ⨾ noSibling n) at 0 t
@@ -108,6 +111,7 @@ module _ (d n : ℕ) {s : List ℕ} {at : ℕ} {c : ℕ} {q : Slot} (room : Room
       lone-is h₃ f g =
           let far₂ = l₂ .of .far _ _ h₂ in
           let far₃ = l₃ .far _ _ h₃ in
-          reader-leaf lone-begun (within-goes d .element) l₂ (goes-sibling n) (bare-sibling n) h₂ l₃ 1 h₃ (omega arith) f g
+          reader-leaf lone-begun (within-goes d .element) l₂ (goes-sibling n) (bare-sibling n) h₂ l₃ 1 h₃
+          (omega arith) f g
 
 pub ruleset lone-steps = (lone-refuses, lone-refuses-inside, lone-refuses-behind, lone-is)

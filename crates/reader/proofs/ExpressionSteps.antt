@@ -39,6 +39,7 @@ use Rattle.tag.specs.Token.{closeBy}
 use Rattle.tag.proofs.Rules.{goes-close, bare-close, goes-expect}
 use Rattle.token.specs.Token.{parted, dotWord}
 use Rattle.reader.specs.Cut.{groupBy, arguments, tailOf, armsOf}
+use Rattle.token.proofs.Rules as K
 use Rattle.reader.proofs.Rules as R
 use Rattle.reader.proofs.Levels as L
 use Rattle.reader.proofs.Steps.{leaf-made-as}
@@ -68,7 +69,8 @@ module _ {s : List ℕ} {G X Y : Rule} {at : ℕ} {q : Slot} {t : List ℕ} {p :
     reader-leaf-refuses h₂ = refused (last-leaf-stops (reader-first h) l₂ h₂) h₂
 
     -- Both are read.
-    pub reader-leaf : {z i y x : ℕ} (j : ℕ) → r₂ ≡ Got z i → at + j ≤ z → y ≡ z → x ≡ m → Made (Got y x) s G at j q 0 t t₁
+    pub reader-leaf : {z i y x : ℕ} (j : ℕ) → r₂ ≡ Got z i → at + j ≤ z → y ≡ z → x ≡ m
+        → Made (Got y x) s G at j q 0 t t₁
     reader-leaf j h₂ b f g = rw (f, g) (upto-made j (last-leaf (reader-first h) l₂ gy by h₂) b)
 
 -- ---- `(conditional)` and `[conditional]`
@@ -94,7 +96,7 @@ module _ (c d : ℕ) {s : List ℕ} {at : ℕ} {q : Slot} {t : List ℕ} where
           let far = l .far _ _ h in
           let begun : Upto s (groupBy c d) at q 0 t (grouped c d) at 0 t =
           upto-as (upto-begin (groupBy c d) q 0 t (omega arith)) (L.group-is s at d deep c) in
-          leaf-goes begun l R.goes-pass R.bare-pass h
+          leaf-goes begun l K.goes-pass K.bare-pass h
 
       -- What is inside refuses.
       pub group-refuses-inside : {t′ : List ℕ} {x a b g y : ℕ} → r₂ ≡ No x a b g y
@@ -137,7 +139,7 @@ module _ (d : ℕ) {s : List ℕ} {at : ℕ} {q : Slot} {t : List ℕ} where
     prefix-is h l₂ =
         let far = l .far _ _ h in
         let begun = upto-as (upto-begin (within d .prefix) q 0 t (omega arith)) (L.prefix-is s at d deep) in
-        handed-up 1 (leaf-goes begun l R.goes-pass R.bare-pass h) (R.goes-unary (d - 1)) l₂ refl refl (omega arith)
+        handed-up 1 (leaf-goes begun l K.goes-pass K.bare-pass h) (R.goes-unary (d - 1)) l₂ refl refl (omega arith)
 
 pub ruleset prefix-steps = (prefix-deep, prefix-refuses, prefix-is)
 
@@ -171,7 +173,7 @@ module _ (d : ℕ) {s : List ℕ} {at : ℕ} {q : Slot} {t : List ℕ} where
       call-open =
           let far = l .far _ _ h in
           let begun = upto-as (upto-begin (within d .call) q 0 t (omega arith)) (L.call-is s at d deep) in
-          leaf-goes begun l R.goes-pass R.bare-pass h
+          leaf-goes begun l K.goes-pass K.bare-pass h
 
       -- It is empty.
       pub call-empty : {z : ℕ} → b ≡ code ")" → z ≡ p + 1 → Made (Got z 0) s (within d .call) at 1 q 0 t t
@@ -186,7 +188,8 @@ module _ (d : ℕ) {s : List ℕ} {at : ℕ} {q : Slot} {t : List ℕ} where
           → Made r₂ s (within d .call) at 1 q 0 t t′
       call-is x l₂ =
           let far = l .far _ _ h in
-          handed-up 1 (upto-else call-open y (ne-eqb b (code ")") x)) (R.goes-arguments (d - 1)) l₂ refl refl (omega arith)
+          handed-up 1 (upto-else call-open y (ne-eqb b (code ")") x)) (R.goes-arguments (d - 1)) l₂ refl refl
+          (omega arith)
 
 pub ruleset call-steps = (call-deep, call-refuses, call-empty, call-is)
 
@@ -205,7 +208,8 @@ module _ (d : ℕ) {s : List ℕ} {at : ℕ} {c : ℕ} {q : Slot} (room : Room c
   module _ {e k : ℕ} (h : r ≡ Got e k) {a : ℕ} (st : Start (length t₁) (6 * k) a) {q₂ : Slot} (eq : q₂ ≡ slotBehind k q)
       {r₂ : Ans} {u : List ℕ} (l₂ : Made r₂ s (many (argumentTurn (within d))) e 0 q₂ 0 (midOf a (length t₁ - a) t₁) u)
     where
-      args-first : Upto s (arguments (within d)) at q 0 t (many (argumentTurn (within d)) ⨾ expectByte (code ")")) e k t₁
+      args-first : Upto s (arguments (within d)) at q 0 t
+          (many (argumentTurn (within d)) ⨾ expectByte (code ")")) e k t₁
       args-first = reader-first args-begun (R.goes-cond d) l h
 
       -- One behind it refuses.
@@ -225,14 +229,16 @@ module _ (d : ℕ) {s : List ℕ} {at : ℕ} {c : ℕ} {q : Slot} (room : Room c
         args-refuses-behind h₃ = refused (last-leaf-stops (args-all refl) l₃ h₃) h₃
 
         -- They are read.
-        pub args-are : {z i y x : ℕ} {t₂ : List ℕ} → r₃ ≡ Got z i → t₂ ≡ putMid a (length t₁ - a) t₁ u → y ≡ z → x ≡ k + m
+        pub args-are : {z i y x : ℕ} {t₂ : List ℕ} → r₃ ≡ Got z i → t₂ ≡ putMid a (length t₁ - a) t₁ u → y ≡ z
+            → x ≡ k + m
             → Made (Got y x) s (arguments (within d)) at 1 q 0 t t₂
         args-are h₃ w f g =
             let far = l .of .far _ _ h in
             let far₂ = l₂ .of .far _ _ h₂ in
             let far₃ = l₃ .far _ _ h₃ in
             rw (f, g)
-            (upto-made 1 (last-leaf (args-all w) l₃ (goes-expect (code ")")) (R.bare-expect (code ")")) h₃) (omega arith))
+            (upto-made 1 (last-leaf (args-all w) l₃ (goes-expect (code ")")) (R.bare-expect (code ")")) h₃)
+            (omega arith))
 
 pub ruleset args-steps = (args-refuses, args-refuses-inside, args-refuses-behind, args-are)
 
@@ -240,7 +246,8 @@ pub ruleset args-steps = (args-refuses, args-refuses-inside, args-refuses-behind
 
 module _ (d : ℕ) (s : List ℕ) (at : ℕ) {b : ℕ} (y : b ≡ byteAt s at) where
   -- A name.
-  pub primary-word : {q : Slot} {t : List ℕ} {f : Bool} {r : Ans} → f ≡ opensName b → f ≡ true → Leaf nothing r s primaryWord at 1
+  pub primary-word : {q : Slot} {t : List ℕ} {f : Bool} {r : Ans} → f ≡ opensName b → f ≡ true
+      → Leaf nothing r s primaryWord at 1
       → Made r s (primary (within d)) at 1 q 0 t t
   unfolding primary
   primary-word e x l =
@@ -254,7 +261,8 @@ module _ (d : ℕ) (s : List ℕ) (at : ℕ) {b : ℕ} (y : b ≡ byteAt s at) w
     not-word = Lex.when-no s (suc (length s)) 0 at opensName primaryWord _ (Lex.tested opensName y e x)
 
     -- A number.
-    pub primary-number : {q : Slot} {t : List ℕ} {f₂ : Bool} {r : Ans} → f₂ ≡ digit b → f₂ ≡ true → Leaf nothing r s number at 1
+    pub primary-number : {q : Slot} {t : List ℕ} {f₂ : Bool} {r : Ans} → f₂ ≡ digit b → f₂ ≡ true
+        → Leaf nothing r s number at 1
         → Made r s (primary (within d)) at 1 q 0 t t
     primary-number e₂ x₂ l =
         leaf-made-as (primary (within d)) 1 R.bare-number l
@@ -266,18 +274,21 @@ module _ (d : ℕ) (s : List ℕ) (at : ℕ) {b : ℕ} (y : b ≡ byteAt s at) w
       not-number = not-word ∙ Lex.when-no s (suc (length s)) 0 at digit number _ (Lex.tested digit y e₂ x₂)
 
       -- A string.
-      pub primary-string : {q : Slot} {t : List ℕ} {f₃ : Bool} {r : Ans} → f₃ ≡ quote b → f₃ ≡ true → Leaf nothing r s string at 2
+      pub primary-string : {q : Slot} {t : List ℕ} {f₃ : Bool} {r : Ans} → f₃ ≡ quote b → f₃ ≡ true
+          → Leaf nothing r s string at 2
           → Made r s (primary (within d)) at 1 q 0 t t
       primary-string e₃ x₃ l =
           leaf-made-as (primary (within d)) 1 R.bare-string l
-          (sym (not-number ∙ Lex.when-yes s (suc (length s)) 0 at quote string _ (Lex.tested quote y e₃ x₃))) (omega arith)
+          (sym (not-number ∙ Lex.when-yes s (suc (length s)) 0 at quote string _ (Lex.tested quote y e₃ x₃)))
+          (omega arith)
 
       module _ {f₃ : Bool} (e₃ : f₃ ≡ quote b) (x₃ : f₃ ≡ false) where
         not-string : readAt s (primary (within d)) at ≡ readAt s (when (is "(") ⇒ within d .paren ∣ need) at
         not-string = not-number ∙ Lex.when-no s (suc (length s)) 0 at quote string _ (Lex.tested quote y e₃ x₃)
 
         -- `(conditional)`.
-        pub primary-group : {q : Slot} {t t′ : List ℕ} {r : Ans} → b ≡ code "(" → Made r s (groupBy (code ")") d) at 1 q 0 t t′
+        pub primary-group : {q : Slot} {t t′ : List ℕ} {r : Ans}
+            → b ≡ code "(" → Made r s (groupBy (code ")") d) at 1 q 0 t t′
             → Made r s (primary (within d)) at 1 q 0 t t′
         primary-group x₄ l =
             made-as l (primary (within d)) 1
@@ -302,10 +313,11 @@ bracketed d = when (is "[") ⇒ within d .bracket ∣ when (is "(") ⇒ within d
 
 module _ (d : ℕ) (s : List ℕ) (at : ℕ) {b : ℕ} (y : b ≡ byteAt s at) where
   -- `.name`.
-  pub tail-word : {q : Slot} {t : List ℕ} {r : Ans} → b ≡ code "." → Leaf nothing r s dotWord at 1 → Made r s (tailOf (within d)) at 1 q 0 t t
+  pub tail-word : {q : Slot} {t : List ℕ} {r : Ans} → b ≡ code "." → Leaf nothing r s dotWord at 1
+      → Made r s (tailOf (within d)) at 1 q 0 t t
   unfolding tailOf
   tail-word x l =
-      leaf-made-as (tailOf (within d)) 1 R.bare-dot-word l
+      leaf-made-as (tailOf (within d)) 1 K.bare-dot-word l
       (sym (Lex.when-yes s (suc (length s)) 0 at (is ".") dotWord (bracketed d) (Lex.byte-is y x))) (omega arith)
 
   module _ (x : b ≡ code "." → ⊥) where
@@ -314,7 +326,8 @@ module _ (d : ℕ) (s : List ℕ) (at : ℕ) {b : ℕ} (y : b ≡ byteAt s at) w
     no-word = Lex.when-no s (suc (length s)) 0 at (is ".") dotWord (bracketed d) (Lex.byte-not y x)
 
     -- `[conditional]`.
-    pub tail-bracket : {q : Slot} {t t′ : List ℕ} {r : Ans} → b ≡ code "[" → Made r s (groupBy (code "]") d) at 1 q 0 t t′
+    pub tail-bracket : {q : Slot} {t t′ : List ℕ} {r : Ans}
+        → b ≡ code "[" → Made r s (groupBy (code "]") d) at 1 q 0 t t′
         → Made r s (tailOf (within d)) at 1 q 0 t t′
     tail-bracket x₂ l =
         made-as l (tailOf (within d)) 1
@@ -365,7 +378,8 @@ module _ (d : ℕ) (s : List ℕ) (at : ℕ) {b : ℕ} (y : b ≡ byteAt s at) w
   unfolding unary
   unary-bang x l =
       made-as l (unary (within d)) 1
-      (sym (Lex.when-yes s (suc (length s)) 0 at (is "!") (within d .prefix) (noBang d) (Lex.byte-is y x))) (omega arith)
+      (sym (Lex.when-yes s (suc (length s)) 0 at (is "!") (within d .prefix) (noBang d) (Lex.byte-is y x)))
+      (omega arith)
 
   module _ (x : b ≡ code "!" → ⊥) where
     no-bang : readAt s (unary (within d)) at ≡ readAt s (noBang d) at
@@ -373,13 +387,15 @@ module _ (d : ℕ) (s : List ℕ) (at : ℕ) {b : ℕ} (y : b ≡ byteAt s at) w
     no-bang = Lex.when-no s (suc (length s)) 0 at (is "!") (within d .prefix) (noBang d) (Lex.byte-not y x)
 
     -- `--`.
-    pub unary-twice : {q : Slot} {t t′ : List ℕ} {f : Bool} → b ≡ code "-" → f ≡ opens s (code "-" ∷ code "-" ∷ []) at → f ≡ true
+    pub unary-twice : {q : Slot} {t t′ : List ℕ} {f : Bool} → b ≡ code "-" → f ≡ opens s (code "-" ∷ code "-" ∷ []) at
+        → f ≡ true
         → Made (No 3 at at 0 0) s (unary (within d)) at 1 q 0 t t′
     unfolding parse
     unary-twice x₂ e h = let z = sym e ∙ h in refused (no-bang ∙ rw z) refl
 
     -- `-`.
-    pub unary-dash : {q : Slot} {t : List ℕ} {f : Bool} {r : Ans} {t′ : List ℕ} → b ≡ code "-" → f ≡ opens s (code "-" ∷ code "-" ∷ []) at
+    pub unary-dash : {q : Slot} {t : List ℕ} {f : Bool} {r : Ans} {t′ : List ℕ} → b ≡ code "-"
+        → f ≡ opens s (code "-" ∷ code "-" ∷ []) at
         → f ≡ false
         → Made r s (within d .prefix) at 1 q 0 t t′
         → Made r s (unary (within d)) at 1 q 0 t t′
@@ -403,14 +419,17 @@ module _ (d : ℕ) (s : List ℕ) (at : ℕ) {b : ℕ} (y : b ≡ byteAt s at) w
           → Made r s (unary (within d)) at 1 q 0 t t′
       unary-element x₃ l =
           made-as l (unary (within d)) 1
-          (sym (no-dash ∙ Lex.when-yes s (suc (length s)) 0 at (is "<") _ (postfix (within d)) (Lex.byte-is y x₃))) (omega arith)
+          (sym (no-dash ∙ Lex.when-yes s (suc (length s)) 0 at (is "<") _ (postfix (within d)) (Lex.byte-is y x₃)))
+          (omega arith)
 
       -- A postfix.
-      pub unary-postfix : {q : Slot} {t t′ : List ℕ} {r : Ans} → (b ≡ code "<" → ⊥) → Made r s (postfix (within d)) at 1 q 0 t t′
+      pub unary-postfix : {q : Slot} {t t′ : List ℕ} {r : Ans} → (b ≡ code "<" → ⊥)
+          → Made r s (postfix (within d)) at 1 q 0 t t′
           → Made r s (unary (within d)) at 1 q 0 t t′
       unary-postfix x₃ l =
           made-as l (unary (within d)) 1
-          (sym (no-dash ∙ Lex.when-no s (suc (length s)) 0 at (is "<") _ (postfix (within d)) (Lex.byte-not y x₃))) (omega arith)
+          (sym (no-dash ∙ Lex.when-no s (suc (length s)) 0 at (is "<") _ (postfix (within d)) (Lex.byte-not y x₃)))
+          (omega arith)
 
 pub ruleset unary-steps = (unary-bang, unary-twice, unary-dash, unary-element, unary-postfix)
 
@@ -459,14 +478,16 @@ module _ (d : ℕ) {s : List ℕ} {at : ℕ} {c : ℕ} {q : Slot} (room : Room c
         cond-refuses-inside h₃ = refused (last-made-stops cond-asked (made-lent t₁ st l₃ refl) h₃) h₃
 
         -- It is read.
-        pub cond-is : {z m y x : ℕ} {t₂ : List ℕ} → r₃ ≡ Got z m → t₂ ≡ putMid a (length t₁ - a) t₁ u → y ≡ z → x ≡ k + m
+        pub cond-is : {z m y x : ℕ} {t₂ : List ℕ} → r₃ ≡ Got z m → t₂ ≡ putMid a (length t₁ - a) t₁ u → y ≡ z
+            → x ≡ k + m
             → Made (Got y x) s (conditional (within d)) at 1 q 0 t t₂
         cond-is h₃ w f g =
             let far = l .of .far _ _ h in
             let far₂ = l₂ .far _ _ h₂ in
             let far₃ = l₃ .of .far _ _ h₃ in
             rw (f, g)
-            (upto-made 1 (last-made cond-asked (made-lent t₁ st l₃ w) (R.goes-question d) eq (omega arith) h₃) (omega arith))
+            (upto-made 1 (last-made cond-asked (made-lent t₁ st l₃ w) (R.goes-question d) eq (omega arith) h₃)
+            (omega arith))
 
 pub ruleset cond-steps = (cond-refuses, cond-refuses-behind, cond-alone, cond-refuses-inside, cond-is)
 
@@ -481,7 +502,8 @@ module _ (d : ℕ) (s : List ℕ) (at : ℕ) {f : Bool}
 
   module _ (h : f ≡ false) {f₂ : Bool} (e₂ : f₂ ≡ opens s (code "?" ∷ code "?" ∷ []) at) where
     -- `??`.
-    pub choice-twice : {q : Slot} {t t′ : List ℕ} → f₂ ≡ true → Made (No 3 at at 0 0) s (question (within d)) at 1 q 0 t t′
+    pub choice-twice : {q : Slot} {t t′ : List ℕ} → f₂ ≡ true
+        → Made (No 3 at at 0 0) s (question (within d)) at 1 q 0 t t′
     unfolding question parse
     choice-twice h₂ =
         let z = sym e ∙ h in
@@ -497,7 +519,8 @@ module _ (d : ℕ) (s : List ℕ) (at : ℕ) {f : Bool}
           rw (z, w)
 
       -- No level is left.
-      pub choice-deep : {q : Slot} {t t′ : List ℕ} → d ≡ 0 → Made (No 14 at at 0 0) s (question (within d)) at 1 q 0 t t′
+      pub choice-deep : {q : Slot} {t t′ : List ℕ} → d ≡ 0
+          → Made (No 14 at at 0 0) s (question (within d)) at 1 q 0 t t′
       choice-deep x = too-deep (choice-here ∙ L.choice-deep s at d x)
 
       module _ (deep : d ≡ 0 → ⊥) {r : Ans} (l : Leaf nothing r s pass at 1) where
@@ -515,7 +538,7 @@ module _ (d : ℕ) (s : List ℕ) (at : ℕ) {f : Bool}
             let far = l .far _ _ x in
             let begun = upto-as (upto-begin (question (within d)) q 0 t (omega arith))
             (choice-here ∙ L.choice-is s at d deep) in
-            handed-up 1 (leaf-goes begun l R.goes-pass R.bare-pass x) (R.goes-arms (d - 1)) l₂ refl refl (omega arith)
+            handed-up 1 (leaf-goes begun l K.goes-pass K.bare-pass x) (R.goes-arms (d - 1)) l₂ refl refl (omega arith)
 
 pub ruleset choice-steps = (choice-dot, choice-twice, choice-deep, choice-refuses, choice-is)
 
@@ -536,14 +559,15 @@ module _ (d : ℕ) {s : List ℕ} {at : ℕ} {c : ℕ} {q : Slot} (room : Room c
     arms-first = reader-first arms-begun (R.goes-cond d) l h
 
     -- No `:` is behind it.
-    pub arms-refuse-behind : {t′ : List ℕ} {x a b g y : ℕ} → r₂ ≡ No x a b g y → Made r₂ s (armsOf (within d)) at 1 q 0 t t′
+    pub arms-refuse-behind : {t′ : List ℕ} {x a b g y : ℕ} → r₂ ≡ No x a b g y
+        → Made r₂ s (armsOf (within d)) at 1 q 0 t t′
     arms-refuse-behind h₂ = refused (leaf-stops arms-first l₂ h₂) h₂
 
     module _ {p j : ℕ} (h₂ : r₂ ≡ Got p j) {a : ℕ} (st : Start (length t₁) (6 * k) a) {q₂ : Slot}
         (eq : q₂ ≡ slotBehind k q) {r₃ : Ans} {u : List ℕ}
         (l₃ : Made r₃ s (conditional (within d)) p 1 q₂ 0 (midOf a (length t₁ - a) t₁) u) where
       arms-second : Upto s (armsOf (within d)) at q 0 t (conditional (within d)) p k t₁
-      arms-second = leaf-goes arms-first l₂ R.goes-parted R.bare-parted h₂
+      arms-second = leaf-goes arms-first l₂ K.goes-parted K.bare-parted h₂
 
       -- The second refuses.
       pub arms-refuse-inside : {t′ : List ℕ} {x a b g y : ℕ} → r₃ ≡ No x a b g y

@@ -75,7 +75,8 @@ tag-rows d o h r q at =
 
 -- ---- the whole
 
--- The opening tag's rule T at `at` has got a node around C, up to z, and its rows are stored at the word 6. The answer of
+-- The opening tag's rule T at `at` has got a node around C, up to z, and its rows are stored at the word 6. The answer
+-- of
 -- the closing tag at c, with the verdict, is y c. The label of the whole is that of a node of kind K with extra x.
 pub record Opens (s : List ℕ) (d : ℕ) (n : Inner) (T : Rule) (label : Forest → Label) (K x at z m : ℕ) (y : ℕ → Answer)
     (q : Slot) (t t₁ : List ℕ) : Type 0 where

@@ -1,37 +1,29 @@
--- Rules that go on, and rules that read bytes alone: those of the definition that a reader reads, and the pieces of them.
+-- Rules that go on, and rules that read bytes alone: those of the definition that a reader reads, and the pieces of
+-- them.
 use mathlib.Core.Path.{_≡_, refl}
 use mathlib.Core.Bool.{true}
 use Prim.Native.Nat.{ℕ, zero, suc}
 use Rattle.rules.proofs.Run.{goes}
 use Rattle.jsx.specs.Byte.{need, expect}
-use Rattle.jsx.specs.Blank.{blank, blanks, comment, commentTurn, lineComment, lineTurn, pass}
+use Rattle.jsx.specs.Blank.{blanks, pass}
 use Rattle.jsx.specs.Name.{part, otherPart, namespaced, attributeName}
-use Rattle.jsx.specs.Text.{text, quoted, quotedBy}
+use Rattle.jsx.specs.Text.{quoted, quotedBy}
 use Rattle.jsx.specs.Word.{word, primaryWord, number, whole, fraction, digits, string, stringBy, stringTurn}
 use Rattle.jsx.specs.Expression.{Inner, noSibling, sibling, primary, unary, either, both, sum}
 use Rattle.jsx.specs.Expression.{product, joined, question, conditional, expression}
-use Rattle.jsx.specs.Braces.{dots, closeContainer, container, emptyBraces, spread}
+use Rattle.jsx.specs.Braces.{dots, closeContainer, container, spread}
 use Rattle.jsx.specs.Tag.{value, initializer, namedAttribute, attribute, attributes}
 use Rattle.jsx.specs.Element.{children}
-use Rattle.jsx.specs.Depth.{elementTooDeep, within}
+use Rattle.jsx.specs.Depth.{within}
 use Rattle.jsx.proofs.Goes.{InnerGoes, unary-goes, conditional-goes, within-goes}
 use Rattle.lex.specs.Contract.{expectByte}
 use Rattle.lex.proofs.Bare.{bare}
 use Rattle.tag.specs.Token.{closeBy}
-use Rattle.token.specs.Token.{operator, suffixed, comma, assigned, attributeAt, parted, dotsOn, shutBraces, dotWord}
+use Rattle.token.proofs.Rules.{goes-dots, goes-shut-braces}
+use Rattle.token.specs.Token.{parted, dotWord}
 use Rattle.reader.specs.Cut.{groupBy, arguments, tailOf, armsOf, inContainer, inSpread, inAttribute}
 
 -- ---- bytes alone
-
--- A byte and blanks are bytes alone.
-pub bare-pass : bare pass ≡ true
-unfolding bare pass blanks blank comment commentTurn lineComment lineTurn
-bare-pass = refl
-
--- They go on.
-pub goes-pass : goes pass ≡ true
-unfolding goes pass blanks
-goes-pass = refl
 
 -- A name that is a primary is bytes alone,
 pub bare-primary-word : bare primaryWord ≡ true
@@ -58,81 +50,11 @@ pub bare-need : bare need ≡ true
 unfolding bare need
 bare-need = refl
 
-pub bare-too-deep : bare elementTooDeep ≡ true
-unfolding bare elementTooDeep pass blanks blank comment commentTurn lineComment lineTurn need
-bare-too-deep = refl
-
--- An operator with its blanks is bytes alone;
-pub bare-operator : bare operator ≡ true
-unfolding bare operator blanks blank comment commentTurn lineComment lineTurn Rattle.jsx.specs.Expression.times
-    Rattle.jsx.specs.Expression.plusMinus Rattle.jsx.specs.Expression.andAnd Rattle.jsx.specs.Expression.orOr
-bare-operator = refl
-
--- so are the blanks before a suffix,
-pub bare-suffixed : bare suffixed ≡ true
-unfolding bare suffixed blanks blank comment commentTurn lineComment lineTurn
-bare-suffixed = refl
-
--- a comma,
-pub bare-comma : bare comma ≡ true
-unfolding bare comma pass blanks blank comment commentTurn lineComment lineTurn
-bare-comma = refl
-
--- an attribute's `=`,
-pub bare-assigned : bare assigned ≡ true
-unfolding bare assigned expect need blanks blank comment commentTurn lineComment lineTurn
-bare-assigned = refl
-
--- the blanks before an attribute,
-pub bare-attribute-at : bare attributeAt ≡ true
-unfolding bare attributeAt blanks blank comment commentTurn lineComment lineTurn
-bare-attribute-at = refl
-
--- a conditional's `:`,
-pub bare-parted : bare parted ≡ true
-unfolding bare parted expect need blanks blank comment commentTurn lineComment lineTurn
-bare-parted = refl
-
-pub goes-parted : goes parted ≡ true
-unfolding goes parted expect need blanks
-goes-parted = refl
-
--- the dots of a spread,
-pub bare-dots : bare dotsOn ≡ true
-unfolding bare dotsOn dots need blanks blank comment commentTurn lineComment lineTurn
-bare-dots = refl
-
-pub goes-dots : goes dotsOn ≡ true
-unfolding goes dotsOn dots need blanks
-goes-dots = refl
-
--- the end of `{expression}`,
-pub bare-shut-braces : bare shutBraces ≡ true
-unfolding bare shutBraces closeContainer expect need blanks blank comment commentTurn lineComment lineTurn
-bare-shut-braces = refl
-
-pub goes-shut-braces : goes shutBraces ≡ true
-unfolding goes shutBraces closeContainer expect need blanks
-goes-shut-braces = refl
-
--- and `.name`.
-pub bare-dot-word : bare dotWord ≡ true
-unfolding bare dotWord expect need word blanks blank comment commentTurn lineComment lineTurn
-bare-dot-word = refl
-
 -- ---- rules that go on, with whatever may be entered
 
 pub goes-attribute-name : goes attributeName ≡ true
 unfolding goes attributeName namespaced otherPart part blanks expect need
 goes-attribute-name = refl
-
-pub goes-text : goes text ≡ true
-unfolding goes text
-goes-text = refl
-
-pub goes-empty-braces : goes emptyBraces ≡ true
-unfolding goes emptyBraces blanks expect need
-goes-empty-braces = refl
 
 module _ (d : ℕ) where
   abbrev n : Inner

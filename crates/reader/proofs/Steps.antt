@@ -12,7 +12,7 @@ use mir.Syntax.{w64}
 use mir.Val.{Fits}
 use Rattle.rules.specs.Forest.{node, Forest}
 use Rattle.rules.specs.Rule.{Rule, stop, seq, many, nodeOf, _⨾_}
-use Rattle.rules.specs.Parse.{Answer, got, trouble, pick, behind, parse, readAt}
+use Rattle.rules.specs.Parse.{Answer, got, trouble, behind, parse, readAt}
 use Rattle.rules.specs.Record.{rowWords, count}
 use Rattle.rules.proofs.Forests.{behind-nil}
 use Rattle.rules.proofs.Run.{goes, wide-got}
@@ -20,7 +20,6 @@ use Rattle.rules.proofs.Again.{seq-no, wrap-got}
 use Rattle.lex.specs.Contract.{view, outOf, nothing, Leaf}
 use Rattle.lex.specs.declared.Ans.{Ans}
 use Rattle.lex.specs.declared.Ans.the-variants.{Got, No}
-use Rattle.lex.proofs.Laws as Lex
 use Rattle.lex.proofs.Bare.{bare, flat-got, count-flat}
 use Rattle.table.specs.declared.Slot.{Slot}
 use Rattle.table.specs.Slot.{slotInside, slotBehind}
@@ -33,41 +32,23 @@ use Rattle.table.proofs.Upto.{made-goes, last-made, last-made-stops, loop-on, l
 use Rattle.table.proofs.Upto.{node-made, node-no, same-slot, turn-read}
 use Rattle.table.proofs.Asked.{reader-asked}
 use Rattle.tag.specs.Token.{goesOn}
+use Rattle.token.proofs.Told.{told-goes, told-stop}
 
 -- ---- a leaf that says whether it goes on
-
-module _ {r : Ans} {s : List ℕ} {g : Rule} {at k p j : ℕ} (l : Leaf goesOn r s g at k) (h : r ≡ Got p j) where
-  -- Its number is not 0: it goes on.
-  pub on-goes : (j ≡ 0 → ⊥) → readAt s g at ≡ got true (outOf (readAt s g at)) p
-  on-goes x = go (Lex.view-got goesOn (readAt s g at) (l .is) h)
-    where
-      go : (a : Bool) × (readAt s g at ≡ got a (outOf (readAt s g at)) p) × (j ≡ pick a 1 0)
-          → readAt s g at ≡ got true (outOf (readAt s g at)) p
-      go (true, e, n) = e
-      go (false, e, n) = absurd (x n)
-
-  -- Its number is 0: it stops.
-  pub on-stops : j ≡ 0 → readAt s g at ≡ got false (outOf (readAt s g at)) p
-  on-stops x = go (Lex.view-got goesOn (readAt s g at) (l .is) h)
-    where
-      go : (a : Bool) × (readAt s g at ≡ got a (outOf (readAt s g at)) p) × (j ≡ pick a 1 0)
-          → readAt s g at ≡ got false (outOf (readAt s g at)) p
-      go (true, e, n) = absurd (omega arith)
-      go (false, e, n) = e
 
 module _ {s : List ℕ} {G L R : Rule} {at : ℕ} {q : Slot} {i : ℕ} {t₀ : List ℕ} {p m : ℕ} {t : List ℕ}
     (v : Upto s G at q i t₀ (seq L R) p m t) (ba : bare L ≡ true) {r : Ans} {k : ℕ} (l : Leaf goesOn r s L p k)
     {e j : ℕ} (h : r ≡ Got e j) where
   -- It goes on: what is behind it is left.
   pub on-more : (j ≡ 0 → ⊥) → Upto s G at q i t₀ R e m t
-  on-more x = read-goes v ba (on-goes l h x) (l .far _ _ h .1)
+  on-more x = read-goes v ba (told-goes l h x) (l .far _ _ h .1)
 
   -- It stops: so does the whole.
   pub on-last : j ≡ 0 → Upto s G at q i t₀ stop e m t
   unfolding parse
   on-last x =
       let o = outOf (readAt s L p) in
-      let y = on-stops l h x in
+      let y = told-stop l h x in
       upto-bare v o
       (rw y (ap (λ (u : Forest). got false u e) (sym (behind-nil o))))
       (wide-got s (suc (length s)) L 0 p y)
@@ -358,7 +339,11 @@ module _ {s : List ℕ} {G L R : Rule} (is : Loops s G L R) {c at : ℕ} {q : Sl
             let past = upto-count on {k = k} (omega arith) in
             let next = loop-on refl (omega arith) (loop-left is v) past (omega arith) in
             rw (f, g)
-            (record { room = v .room; here = subst (λ (g : Rule). Upto s G at q 0 t₀ g z (m + k) t′) (sym (is .is)) next })
+            (record {
+              room = v .room;
+              here = subst (λ (g : Rule). Upto s G at q 0 t₀ g z (m + k) t′)
+                  (sym (is .is)) next;
+            })
 
 pub ruleset loop-steps = (loop-begins, loop-refuses, loop-ends, loop-refuses-inside, loop-again)
 
@@ -375,7 +360,8 @@ pub ruleset loop-asked = (
 
 -- ---- nodes
 
--- The rule N is a node of the kind K. Inside it bytes are read up to p, and then G is left, which goes on. It has at most
+-- The rule N is a node of the kind K. Inside it bytes are read up to p, and then G is left, which goes on. It has at
+-- most
 -- one record more than bytes.
 pub record Wraps (s : List ℕ) (N : Rule) (at K : ℕ) (G : Rule) (p : ℕ) : Type 0 where
   pub within : Rule

@@ -52,6 +52,7 @@ use Rattle.reader.specs.declared.Tagged.{Tagged}
 use Rattle.reader.specs.declared.Tagged.the-variants.{Got, No}
 use Rattle.reader.specs.Cut.{inTag}
 use Rattle.reader.specs.Contract.{plain, TagMade, Content}
+use Rattle.token.proofs.Rules as K
 use Rattle.reader.proofs.Rules as R
 use Rattle.reader.proofs.ExpressionSteps.{reader-first}
 use Rattle.reader.proofs.Paired.{Opens, rows-behind, rows-front, paired-no, paired-shut}
@@ -193,7 +194,8 @@ got-no {X} {r} {p} {m} {n} {a} {b} {c} {d} e f =
     absurd (omega arith)
 
 -- A reader that was lent the part behind v records below the record in the slot q.
-content-lent : (v : ℕ) (q : Slot) (t : List ℕ) {r : Ans} {s : List ℕ} {g : Rule} {p k i : ℕ} {q₁ q₂ : Slot} {u t₁ : List ℕ}
+content-lent : (v : ℕ) (q : Slot) (t : List ℕ) {r : Ans} {s : List ℕ} {g : Rule} {p k i : ℕ} {q₁ q₂ : Slot}
+    {u t₁ : List ℕ}
     → Start (length t) (6 * (v + 1)) i
     → q₁ ≡ slotInside q
     → q₂ ≡ slotBehind v q₁
@@ -204,7 +206,8 @@ content-lent v q t {r} {s} {g} {p} {k} {t₁ = t₁} st eq eq₂ l w =
     subst (λ (x : Slot). Made r s g p k x (6 * (v + 1)) t t₁) (eq₂ ∙ ap (slotBehind v) eq) (made-lent t st l w)
 
 module _ {s : List ℕ} {n : Inner} {o : Opened} {p v : ℕ} {q : Slot} (t : List ℕ) {i : ℕ}
-    (st : Start (length t) (6 * (v + 1)) i) {q₁ : Slot} (eq : q₁ ≡ slotInside q) {q₂ : Slot} (eq₂ : q₂ ≡ slotBehind v q₁)
+    (st : Start (length t) (6 * (v + 1)) i) {q₁ : Slot} (eq : q₁ ≡ slotInside q)
+    {q₂ : Slot} (eq₂ : q₂ ≡ slotBehind v q₁)
     {r : Ans} {u : List ℕ} (l : Made r s (children n) p 0 q₂ 0 (midOf i (length t - i) t) u) where
   -- A child refuses.
   pub content-refuses : {t′ : List ℕ} {x a b c d : ℕ} → r ≡ A.No x a b c d → Content r s n o p v q t t′
@@ -262,7 +265,8 @@ module _ (s : List ℕ) (d at a : ℕ) (pa : Past a s pass at 1) where
   tag-read : (z : ℕ) (b : Bool) → readAt s (inTag (within d)) a ≡ got b (rest s d a) z
       → readAt s (openTag (within d)) at ≡ got b (opening s d at a) z
   unfolding openTag inTag
-  tag-read z b x = wrap-got s (suc (length s)) (pass ⨾ inTag (within d)) 0 at (inside-read _ x) (λ o. node Kind.openingTag 0)
+  tag-read z b x = wrap-got s (suc (length s)) (pass ⨾ inTag (within d)) 0 at (inside-read _ x)
+      (λ o. node Kind.openingTag 0)
 
   named-no : {n b c e f : ℕ} → readAt s (inTag (within d)) a ≡ trouble n b c e f
       → readAt s (namedIn d (within d)) at ≡ trouble n b c e f
@@ -270,7 +274,7 @@ module _ (s : List ℕ) (d at a : ℕ) (pa : Past a s pass at 1) where
   named-no x = let k = inside-read _ x in rw k
 
   flat-front : Flat (front s at)
-  flat-front = flat-got s (suc (length s)) pass 0 at R.bare-pass (pa .is)
+  flat-front = flat-got s (suc (length s)) pass 0 at K.bare-pass (pa .is)
 
   wide-front : a ≡ at + width (front s at)
   wide-front = wide-got s (suc (length s)) pass 0 at (pa .is)
@@ -358,12 +362,14 @@ module _ (d : ℕ) {s : List ℕ} {at a : ℕ} (pa : Past a s pass at 1) (q : Sl
         ∙ (λ j. sets (named-rows false read j) 0 (nodeRow q Kind.element at z 0 (ev j)))
         ∙ headed O t q at 0 6 Kind.element z 0 (m + 1) wide (omega arith) refl in
         rw (f₁, f₂) (record {
-          of = made-done s (group (node Kind.element 0) O nil) at 1 q 0 t t₃ z (m + 2) whole (omega arith) (omega arith) rows;
+          of = made-done s (group (node Kind.element 0) O nil) at 1 q 0 t t₃ z (m + 2) whole (omega arith)
+              (omega arith) rows;
         })
 
     -- Its content decides.
     module _ (n : g ≡ 0 → ⊥) {o : Opened} (eo : o ≡ record { at = at; start = a; end = e; count = k }) where
-      named-opens : Opens s d (within d) (openTag (within d)) (λ o. node Kind.element (pairedOrNot o)) Kind.element 1 at z m
+      named-opens : Opens s d (within d) (openTag (within d))
+          (λ o. node Kind.element (pairedOrNot o)) Kind.element 1 at z m
           (closingNamed s o) q t t₂
       unfolding pairedOrNot _⋈_
       named-opens =
@@ -408,7 +414,7 @@ pub ruleset named-steps = (named-refuses, named-single, named-is)
 
 bare-opening : bare (pass ⨾ expect ">") ≡ true
 unfolding bare expect need
-bare-opening = rw R.bare-pass
+bare-opening = rw K.bare-pass
 
 module _ (s : List ℕ) (at a : ℕ) (pa : Past a s pass at 1) (y : byteAt s a ≡ code ">") where
   fragment-inside : readAt s (pass ⨾ expect ">") at ≡ got true (front s at ⋈ byte (byteAt s a) nil) (a + 1)
@@ -475,7 +481,8 @@ module _ (d : ℕ) {s : List ℕ} {at a : ℕ} (pa : Past a s pass at 1) (y : by
     unfolding fragmentIn
     fragment-is {c} {k} {e} {v} {t₂} {t₃} {r₂} h w sh ee ev =
         let m : v ≡ 0 + 1 + k = omega arith in
-        let at-end = subst (λ (x : ℕ). Shut r₂ (closing s at (x - at) noName c) s Kind.fragment 0 at c v q t₂ t₃) ee sh in
+        let at-end = subst
+        (λ (x : ℕ). Shut r₂ (closing s at (x - at) noName c) s Kind.fragment 0 at c v q t₂ t₃) ee sh in
         paired-shut fragment-opens (fragment-lent w) (R.goes-children d) refl refl h at-end m
 
 pub ruleset fragment-steps = (fragment-refuses, fragment-is)

@@ -58,4 +58,5 @@ pub record Content (r : Ans) (s : List ℕ) (n : Inner) (o : Opened) (p v : ℕ)
 pub record ChildMade (r : Ans) (s : List ℕ) (n : Inner) (at : ℕ) (q : Slot) (t t′ : List ℕ) : Type 0 where
   pub made : Made r s (child n) at 0 q 0 t t′
   pub stays : (m : ℕ) → r ≡ A.Got at m → readAt s (child n) at ≡ got false nil at
-  pub goes : (z m : ℕ) → r ≡ A.Got z m → (z ≡ at → ⊥) → readAt s (child n) at ≡ got true (outOf (readAt s (child n) at)) z
+  pub goes : (z m : ℕ) → r ≡ A.Got z m → (z ≡ at → ⊥)
+      → readAt s (child n) at ≡ got true (outOf (readAt s (child n) at)) z

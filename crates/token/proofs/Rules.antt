@@ -2,7 +2,7 @@
 -- (An operator, a suffix, a comma, `=` and the blanks before an attribute stop where none follows.)
 use mathlib.Core.Path.{_≡_, refl}
 use mathlib.Core.Bool.{true}
-use Prim.Native.Nat.{ℕ, zero, suc}
+use Prim.Native.Nat.{ℕ}
 use Rattle.rules.proofs.Run.{goes}
 use Rattle.jsx.specs.Byte.{need, expect}
 use Rattle.jsx.specs.Blank.{blank, blanks, comment, commentTurn, lineComment, lineTurn, pass}
@@ -12,7 +12,7 @@ use Rattle.jsx.specs.Expression.{times, plusMinus, andAnd, orOr}
 use Rattle.jsx.specs.Braces.{closeContainer, dots, emptyBraces}
 use Rattle.jsx.specs.Depth.{elementTooDeep}
 use Rattle.lex.proofs.Bare.{bare}
-use Rattle.token.specs.Token.{entered, once, twice, operatorHere, operator, suffixed, comma, assigned}
+use Rattle.token.specs.Token.{once, twice, operatorHere, operator, suffixed, comma, assigned}
 use Rattle.token.specs.Token.{attributeAt, parted, dotsOn, shutBraces, dotWord}
 
 -- ---- a level
@@ -26,18 +26,6 @@ goes-pass = refl
 pub bare-pass : bare pass ≡ true
 unfolding bare pass blanks blank comment commentTurn lineComment lineTurn
 bare-pass = refl
-
--- So is one more level,
-pub bare-entered : (d : ℕ) → bare (entered d) ≡ true
-unfolding bare entered
-bare-entered zero = refl
-bare-entered (suc d) = bare-pass
-
--- which goes on.
-pub goes-entered : (d : ℕ) → goes (entered d) ≡ true
-unfolding goes entered
-goes-entered zero = refl
-goes-entered (suc d) = goes-pass
 
 -- An element with no level left goes on: it is refused,
 pub goes-too-deep : goes elementTooDeep ≡ true

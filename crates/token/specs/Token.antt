@@ -11,11 +11,6 @@ use Rattle.jsx.specs.Word.{word}
 use Rattle.jsx.specs.Expression.{times, plusMinus, andAnd, orOr}
 use Rattle.jsx.specs.Braces.{dots, closeContainer}
 
--- Into one more level: 14 here if none is left, else its first byte and blanks.
-unfoldable pub entered : ℕ → Rule
-entered zero = refuse tooDeep here
-entered (suc d) = pass
-
 -- This byte, refused where it stands twice; the same byte twice, refused where it stands once.
 unfoldable pub once : ℕ → Rule
 once b =

@@ -1,4 +1,4 @@
-// What stands between two readers of the cycle and needs none of them: a level that is entered, an operator, a comma,
+// What stands between two readers of the cycle and needs none of them: an operator, a comma,
 // and the like, each with the blanks around it; and the ends of an element and of a fragment with their records.
 ghost use mathlib.Core.Path.{_≡_};
 ghost use mathlib.Core.Bool.{true};
@@ -16,7 +16,7 @@ ghost use Rattle.table.specs.Slot.{slotInside, slotBehind};
 ghost use Rattle.table.specs.Reader.{Room, Made};
 ghost use Rattle.tag.specs.Token.{goesOn};
 ghost use Rattle.tag.specs.Close.{Opening, closing, closingNamed};
-ghost use Rattle.token.specs.Token.{entered, once, twice, operatorHere, operator as operatorRule};
+ghost use Rattle.token.specs.Token.{once, twice, operatorHere, operator as operatorRule};
 ghost use Rattle.token.specs.Token.{suffixed, comma as commaRule, assigned, attributeAt};
 ghost use Rattle.token.specs.Token.{parted, dotsOn, shutBraces, dotWord};
 ghost use Rattle.token.specs.Shut.{Shut};
@@ -47,17 +47,6 @@ use table::Node;
 use table::ROW_WORDS;
 use table::Slot;
 use tag::Opened;
-
-// Into one more level, of the d that are left: its first byte, and the blanks behind it; the number is 0.
-pub fn enter(s: &[u8], at: usize, d: usize) -> Ans
-    requires { ⌜ at < length (now s) ⌝ }
-    ensures { λ r. ⌜ Leaf nothing r (now (s .entry)) (entered d) at 1 ⌝ }
-{
-    if d == 0 {
-        return Ans::No(TOO_DEEP, at, at, 0, 0);
-    }
-    blank::pass(s, at)
-}
 
 // An element with no level left, whose name or `>` would stand at a: 14 at its first byte, if one does.
 pub fn too_deep(s: &[u8], at: usize, a: usize) -> Ans

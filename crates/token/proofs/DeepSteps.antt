@@ -1,9 +1,9 @@
--- A level that is entered, and an element with no level left: what each need of their leaves follows from.
+-- An element with no level left: what each need of its leaf follows from.
 use mathlib.Core.Path.{_≡_, refl, ap, _∙_}
 use mathlib.Core.Bool.{Bool, true, false}
 use mathlib.Core.List.{List}
 use Prim.Native.Char.{code}
-use Prim.Native.Nat.{ℕ, zero, suc}
+use Prim.Native.Nat.{ℕ, suc}
 use native.Mathlib.Omega.{arith}
 use lib.ListN.{length}
 use borrow.Author.Needs.{needs}
@@ -19,26 +19,6 @@ use Rattle.lex.specs.Contract.{outOf, nothing, Leaf, Past}
 use Rattle.lex.specs.declared.Ans.{Ans}
 use Rattle.lex.specs.declared.Ans.the-variants.{No}
 use Rattle.lex.proofs.Laws as Lex
-use Rattle.token.specs.Token.{entered}
-
--- ---- enter
-
-module _ {s : List ℕ} {at : ℕ} where
-  -- No level is left.
-  pub enter-none : {d : ℕ} → d ≡ 0 → Leaf nothing (No 14 at at 0 0) s (entered d) at 1
-  unfolding entered parse
-  enter-none h = rw h (Lex.leaf-stop nothing s (entered 0) at 1 refl refl)
-
-  -- One is.
-  pub enter-some : {d : ℕ} {r : Ans} → (d ≡ 0 → ⊥) → Leaf nothing r s pass at 1 → Leaf nothing r s (entered d) at 1
-  unfolding entered
-  enter-some {d} {r} h l = go d h
-    where
-      go : (n : ℕ) → (n ≡ 0 → ⊥) → Leaf nothing r s (entered n) at 1
-      go zero k = absurd (k refl)
-      go (suc n) k = l
-
-pub ruleset enter-steps = (needs, enter-none, enter-some)
 
 -- ---- an element with no level left
 
