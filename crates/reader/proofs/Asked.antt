@@ -53,33 +53,42 @@ module _ (s : List ℕ) (at : ℕ) {b : ℕ} (e : b ≡ byteAt s at) where
       → opensName (byteAt u y) ≡ true
   seen-name u h i f g = rw (f, g) (Lex.tested opensName e h i)
 
+  -- A digit was seen.
   pub seen-digit : {t : Bool} (u : List ℕ) {y : ℕ} → t ≡ digit b → t ≡ true → y ≡ at → u ≡ s → digit (byteAt u y) ≡ true
   seen-digit u h i f g = rw (f, g) (Lex.tested digit e h i)
 
+  -- A quote was seen.
   pub seen-quote : {t : Bool} (u : List ℕ) {y : ℕ} → t ≡ quote b → t ≡ true → y ≡ at → u ≡ s → quote (byteAt u y) ≡ true
   seen-quote u h i f g = rw (f, g) (Lex.tested quote e h i)
 
+  -- A byte of a text was seen.
   pub seen-text : {t : Bool} (u : List ℕ) {y : ℕ} → t ≡ inText b → t ≡ true → y ≡ at → u ≡ s
       → inText (byteAt u y) ≡ true
   seen-text u h i f g = rw (f, g) (Lex.tested inText e h i)
 
 -- A byte that was seen where a reader stands is within the input.
 module _ {c : ℕ} {s : List ℕ} {at : ℕ} {q : Slot} (room : Room c s at q) {b : ℕ} where
+  -- A `!` was seen.
   pub bang-inside : b ≡ code "!" → b ≡ byteAt s at → (u : List ℕ) {y : ℕ} → y ≡ at → u ≡ s → y < length u
   bang-inside h e u f g = seen-inside s at e u h (lit< tt) f g
 
+  -- A `-` was seen.
   pub dash-inside : b ≡ code "-" → b ≡ byteAt s at → (u : List ℕ) {y : ℕ} → y ≡ at → u ≡ s → y < length u
   dash-inside h e u f g = seen-inside s at e u h (lit< tt) f g
 
+  -- A `(` was seen.
   pub paren-inside : b ≡ code "(" → b ≡ byteAt s at → (u : List ℕ) {y : ℕ} → y ≡ at → u ≡ s → y < length u
   paren-inside h e u f g = seen-inside s at e u h (lit< tt) f g
 
+  -- A `[` was seen.
   pub bracket-inside : b ≡ code "[" → b ≡ byteAt s at → (u : List ℕ) {y : ℕ} → y ≡ at → u ≡ s → y < length u
   bracket-inside h e u f g = seen-inside s at e u h (lit< tt) f g
 
+  -- A `{` was seen.
   pub brace-inside : b ≡ code "{" → b ≡ byteAt s at → (u : List ℕ) {y : ℕ} → y ≡ at → u ≡ s → y < length u
   brace-inside h e u f g = seen-inside s at e u h (lit< tt) f g
 
+  -- A `<` was seen.
   pub less-inside : b ≡ code "<" → b ≡ byteAt s at → (u : List ℕ) {y : ℕ} → y ≡ at → u ≡ s → y < length u
   less-inside h e u f g = seen-inside s at e u h (lit< tt) f g
 
@@ -200,6 +209,7 @@ module _ {s : List ℕ} {at p v : ℕ} {q : Slot} (ready : Ready s at p v q) whe
   pub content-next : {y : ℕ} → y ≡ v → Fits w64 (y + 1)
   content-next e = omega (arith, few, low)
 
+  -- So is its place in the table.
   pub content-row : {y : ℕ} → y ≡ v + 1 → Fits w64 (6 * y)
   content-row e = omega (arith, few, low)
 
@@ -294,6 +304,7 @@ module _ {s : List ℕ} {at : ℕ} {q : Slot} (room : Room 3 s at q) {a : ℕ} (
       let short = room .short in
       omega arith
 
+  -- With the element there is one more.
   pub tag-two-more : {y : ℕ} → y ≡ m → Fits w64 (y + 2)
   tag-two-more f =
       let far = tag-far in

@@ -130,12 +130,15 @@ module _ (s : List ℕ) (d at : ℕ) where
   pub expr-holds : at ≤ length s → Holds s (expression (within d)) at (conditional (within d)) at
   expr-holds h = record { kind = Kind.expression; wraps = expr-wraps h }
 
+  -- So does `{expression}`,
   pub held-holds : {p : ℕ} → Past p s pass at 1 → Holds s (container (within d)) at (inContainer (within d)) p
   held-holds l = record { kind = Kind.container; wraps = held-wraps l }
 
+  -- and `{...expression}`,
   pub spread-holds : (k : ℕ) {p : ℕ} → Past p s pass at 1 → Holds s (spread k (within d)) at (inSpread (within d)) p
   spread-holds k l = record { kind = k; wraps = spread-wraps k l }
 
+  -- and an attribute that has a name.
   pub attr-holds : {b : ℕ} → at ≤ length s → b ≡ byteAt s at → (b ≡ code "{" → ⊥)
       → Holds s (attribute (within d)) at (inAttribute (within d)) at
   attr-holds h y x = record { kind = Kind.attribute; wraps = attr-wraps h y x }

@@ -202,20 +202,26 @@ tails-loops s d = record {
 -- ---- what each of these reads first
 
 module _ (s : List ℕ) (d : ℕ) where
+  -- A comma is first in each turn of these,
   pub more-turns : Turns s (many (argumentTurn (within d))) comma
   more-turns = record { rest = conditional (within d); loops = more-loops s d }
 
+  -- the blanks before an attribute in these,
   pub attrs-turns : Turns s (attributes (within d)) attributeAt
   attrs-turns = record { rest = attribute (within d); loops = attrs-loops s d }
 
+  -- an operator in these,
   pub joins-turns : Turns s (many (operandTurn (within d))) operator
   joins-turns = record { rest = unary (within d); loops = joins-loops s d }
 
+  -- and the blanks before a suffix in these.
   pub tails-turns : Turns s (many (postfixTurn (within d))) suffixed
   tails-turns = record { rest = tailOf (within d); loops = tails-loops s d }
 
+  -- A unary is first here,
   pub either-begins : {at : ℕ} → at ≤ length s → Begins s (either (within d)) at (unary (within d))
   either-begins h = begins (either-splits s d h)
 
+  -- and a primary here.
   pub postfix-begins : (at : ℕ) → Begins s (postfix (within d)) at (primary (within d))
   postfix-begins at = begins (postfix-splits s d {at = at})

@@ -47,34 +47,42 @@ module _ (s : List ℕ) (at d : ℕ) (h : d ≡ 0) where
   abbrev deep : Answer
   deep = trouble tooDeep at at 0 0
 
+  -- No parenthesis or bracket is entered,
   pub group-deep : (c : ℕ) → readAt s (groupBy c d) at ≡ deep
   unfolding groupBy parse
   group-deep c = rw h
 
+  -- no call,
   pub call-deep : readAt s (within d .call) at ≡ deep
   unfolding within noLevel parse
   call-deep = rw h
 
+  -- no prefix operator,
   pub prefix-deep : readAt s (within d .prefix) at ≡ deep
   unfolding within noLevel parse
   prefix-deep = rw h
 
+  -- no choice,
   pub choice-deep : readAt s (within d .choice) at ≡ deep
   unfolding within noLevel parse
   choice-deep = rw h
 
+  -- no braces as a value,
   pub value-braces-deep : readAt s (within d .valueBraces) at ≡ deep
   unfolding within noLevel parse
   value-braces-deep = rw h
 
+  -- no spread among attributes,
   pub spread-braces-deep : readAt s (within d .spreadBraces) at ≡ deep
   unfolding within noLevel parse
   spread-braces-deep = rw h
 
+  -- no braces as a child,
   pub child-braces-deep : readAt s (within d .childBraces) at ≡ deep
   unfolding within noLevel parse
   child-braces-deep = rw h
 
+  -- and no element: that is said once a name or `>` is seen.
   pub element-deep : readAt s (within d .element) at ≡ readAt s elementTooDeep at
   unfolding within noLevel
   element-deep = rw h
@@ -87,6 +95,7 @@ deeper zero h P f = absurd (h refl)
 deeper (suc x) h P f = let e : suc x - 1 ≡ x = omega arith in rw e (f x)
 
 module _ (s : List ℕ) (at d : ℕ) (h : d ≡ 0 → ⊥) where
+  -- `(conditional)` and `[conditional]`.
   pub group-is : (c : ℕ) → readAt s (groupBy c d) at ≡ readAt s (pass ⨾ conditional (within (d - 1)) ⨾ closeBy c) at
   unfolding groupBy
   group-is c =
@@ -94,6 +103,7 @@ module _ (s : List ℕ) (at d : ℕ) (h : d ≡ 0 → ⊥) where
       (λ x y. readAt s (groupBy c x) at ≡ readAt s (pass ⨾ conditional (within y) ⨾ closeBy c) at)
       (λ x. refl)
 
+  -- `!` or `-`, and a unary.
   pub prefix-is : readAt s (within d .prefix) at ≡ readAt s (pass ⨾ unary (within (d - 1))) at
   unfolding within level prefixIn
   prefix-is =
@@ -101,6 +111,7 @@ module _ (s : List ℕ) (at d : ℕ) (h : d ≡ 0 → ⊥) where
       (λ x y. readAt s (within x .prefix) at ≡ readAt s (pass ⨾ unary (within y)) at)
       (λ x. refl)
 
+  -- A call: nothing, or arguments.
   pub call-is : readAt s (within d .call) at
       ≡ readAt s (pass ⨾ (when (is ")") ⇒ step ∣ arguments (within (d - 1)))) at
   unfolding within level callIn arguments
@@ -109,6 +120,7 @@ module _ (s : List ℕ) (at d : ℕ) (h : d ≡ 0 → ⊥) where
       (λ x y. readAt s (within x .call) at ≡ readAt s (pass ⨾ (when (is ")") ⇒ step ∣ arguments (within y))) at)
       (λ x. refl)
 
+  -- A choice: its `?`, and its arms.
   pub choice-is : readAt s (within d .choice) at ≡ readAt s (pass ⨾ armsOf (within (d - 1))) at
   unfolding within level choiceIn
   choice-is =
@@ -116,6 +128,7 @@ module _ (s : List ℕ) (at d : ℕ) (h : d ≡ 0 → ⊥) where
       (λ x. seq-under s pass (conditional (within x) ⨾ blanks ⨾ expect ":" ⨾ blanks ⨾ conditional (within x))
       (armsOf (within x)) at (arms-cut s (within x)))
 
+  -- Braces as a value: empty, or an expression.
   pub value-braces-is : readAt s (within d .valueBraces) at
       ≡ readAt s (after pass (is "}") ⇒ emptyValueBraces ∣ container (within (d - 1))) at
   unfolding within level valueBracesIn
@@ -125,6 +138,7 @@ module _ (s : List ℕ) (at d : ℕ) (h : d ≡ 0 → ⊥) where
       ≡ readAt s (after pass (is "}") ⇒ emptyValueBraces ∣ container (within y)) at)
       (λ x. refl)
 
+  -- A spread among attributes.
   pub spread-braces-is : readAt s (within d .spreadBraces) at
       ≡ readAt s (spread Kind.spreadAttribute (within (d - 1))) at
   unfolding within level
@@ -133,6 +147,7 @@ module _ (s : List ℕ) (at d : ℕ) (h : d ≡ 0 → ⊥) where
       (λ x y. readAt s (within x .spreadBraces) at ≡ readAt s (spread Kind.spreadAttribute (within y)) at)
       (λ x. refl)
 
+  -- Braces as a child: empty, a spread, or an expression.
   pub child-braces-is : readAt s (within d .childBraces) at
       ≡ readAt s (after pass (is "}") ⇒ emptyBraces ∣ after pass (is ".") ⇒ spread Kind.spreadChild (within (d - 1))
       ∣ container (within (d - 1))) at
@@ -144,6 +159,7 @@ module _ (s : List ℕ) (at d : ℕ) (h : d ≡ 0 → ⊥) where
       ∣ container (within y)) at)
       (λ x. refl)
 
+  -- A fragment, or an element with a name.
   pub element-is : readAt s (within d .element) at
       ≡ readAt s (after pass (is ">") ⇒ fragmentIn (d - 1) (within (d - 1)) ∣ namedIn (d - 1) (within (d - 1))) at
   unfolding within level elementIn
@@ -159,6 +175,7 @@ unfolding within level noLevel parenIn groupBy closeBy expect
 paren-group s at zero = refl
 paren-group s at (suc d) = refl
 
+-- So are brackets.
 pub bracket-group : (s : List ℕ) (at d : ℕ) → readAt s (within d .bracket) at ≡ readAt s (groupBy (code "]") d) at
 unfolding within level noLevel bracketIn groupBy closeBy expect
 bracket-group s at zero = refl

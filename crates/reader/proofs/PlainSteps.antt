@@ -13,6 +13,7 @@ pub plain-got : {r : Tagged} {z m e k g y x : ℕ} → r ≡ T.Got z m e k g →
 unfolding plain
 plain-got h f i = rw (f, i) (sym (ap plain h))
 
+-- So is its refusal.
 pub plain-refuses : {r : Tagged} {n a b c d n₁ a₁ b₁ c₁ d₁ : ℕ} → r ≡ T.No n a b c d → n₁ ≡ n → a₁ ≡ a → b₁ ≡ b → c₁ ≡ c
     → d₁ ≡ d
     → A.No n₁ a₁ b₁ c₁ d₁ ≡ plain r
@@ -24,6 +25,7 @@ pub tagged-got : {r : Ans} {z m y x : ℕ} (e k g : ℕ) → r ≡ A.Got z m →
 unfolding plain
 tagged-got e k g h f i = rw (f, i) (sym h)
 
+-- So is its refusal.
 pub tagged-refuses : {r : Ans} {n a b c d n₁ a₁ b₁ c₁ d₁ : ℕ} → r ≡ A.No n a b c d → n₁ ≡ n → a₁ ≡ a → b₁ ≡ b → c₁ ≡ c
     → d₁ ≡ d
     → plain (T.No n₁ a₁ b₁ c₁ d₁) ≡ r

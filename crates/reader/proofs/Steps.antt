@@ -113,6 +113,7 @@ module _ {c : ℕ} {s : List ℕ} {at : ℕ} {q : Slot} (room : Room c s at q) {
   -- Room behind it and a leaf.
   module _ {r₂ : Ans} {w : Bool → Forest → ℕ} {g₂ : Rule} {k₂ : ℕ} (l₂ : Leaf w r₂ s g₂ e k₂) {p j : ℕ}
       (h₂ : r₂ ≡ Got p j) where
+    -- Room behind both.
     pub made-leaf-room : {d : ℕ} {u : List ℕ} {y : ℕ} {q₂ : Slot} → c ≤ d → u ≡ s → y ≡ p → q₂ ≡ slotBehind m q
         → Room d u y q₂
     made-leaf-room i f z w =

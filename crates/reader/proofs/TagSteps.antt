@@ -393,6 +393,7 @@ module _ (d : ℕ) {s : List ℕ} {at a : ℕ} (pa : Past a s pass at 1) (q : Sl
             says = λ v x. refl;
           }
 
+      -- It has a content.
       pub named-is : {r₂ : Ans} {v : ℕ} {t₃ : List ℕ} → Content r₂ s (within d) o z v q t₂ t₃ → v ≡ m + 1
           → Made r₂ s (namedIn d (within d)) at 1 q 0 t t₃
       unfolding namedIn
