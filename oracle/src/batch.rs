@@ -35,6 +35,70 @@ pub fn batch(mut input: impl Read, mut output: impl Write) -> io::Result<()> {
     output.flush()
 }
 
+/// An item of a batch.
+pub fn item(reading: Reading, bytes: &[u8]) -> Vec<u8> {
+    let letter = match reading {
+        Reading::Stage => b's',
+        Reading::Run => b'r',
+    };
+    let length = u32::try_from(bytes.len()).expect("an item's length is a u32");
+    [&[letter][..], &length.to_le_bytes(), bytes].concat()
+}
+
+/// Holds another program's answers to a batch against these: how many items agree before the first that does not, and what
+/// that one is.
+pub fn against(mut input: impl Read, answers: &[u8]) -> io::Result<Against> {
+    let mut rest = answers;
+    for agree in 0usize.. {
+        let (shown, answer) = match next_item(&mut input)? {
+            Item::Whole(reading, bytes) => (item(reading, &bytes), batch_answer(reading, &bytes)),
+            Item::TooLong => (Vec::new(), program_form(&too_long())),
+            Item::Bad => (Vec::new(), format!("bad item {agree}\n")),
+            Item::NoMore => {
+                return Ok(Against {
+                    agree,
+                    first: end(rest),
+                })
+            }
+        };
+        match rest.strip_prefix(answer.as_bytes()) {
+            Some(more) => rest = more,
+            None => {
+                let other = rest[..rest.len().min(answer.len() + 40)].to_vec();
+                let first = Some(Difference {
+                    item: shown,
+                    answer,
+                    other,
+                });
+                return Ok(Against { agree, first });
+            }
+        }
+    }
+    unreachable!("a batch ends")
+}
+
+/// How far two programs' answers agree.
+pub struct Against {
+    pub agree: usize,
+    pub first: Option<Difference>,
+}
+
+/// An item, the answer to it here, and what the other program wrote from there on.
+pub struct Difference {
+    pub item: Vec<u8>,
+    pub answer: String,
+    pub other: Vec<u8>,
+}
+
+/// Behind the last item nothing is written.
+fn end(rest: &[u8]) -> Option<Difference> {
+    (!rest.is_empty()).then(|| Difference {
+        item: Vec::new(),
+        answer: String::new(),
+        other: rest[..rest.len().min(80)].to_vec(),
+    })
+}
+
 /// The program of document 01: one stage.
 pub fn stage(input: &[u8]) -> String {
     let limits = Limits {

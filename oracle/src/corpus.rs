@@ -52,6 +52,51 @@ pub fn corpus() -> Vec<Case> {
     cases
 }
 
+/// One input by its seed: valid, with a planted fault, some bytes, the same behind a beginning, a deep one's end, or valid and
+/// then damaged.
+pub fn random(seed: u64) -> (Reading, Vec<u8>) {
+    let mut random = Random::seeded(seed);
+    let reading = if random.once_in(2) { Stage } else { Run };
+    let bytes = match random.below(10) {
+        0 => write(seed, reading, None).bytes,
+        1 => return planted_by(&mut random, seed),
+        2 => some_bytes(&mut random),
+        3 => {
+            let (_, beginning) = BEGINNINGS[random.below(BEGINNINGS.len())];
+            [beginning.as_bytes(), &some_bytes(&mut random)].concat()
+        }
+        4 => deep::tail(&mut random),
+        _ => {
+            let mut bytes = write(seed, reading, None).bytes;
+            for _ in 0..=random.below(2) {
+                let (_, damage) = DAMAGES[random.below(DAMAGES.len())];
+                bytes = damage(&mut random, &bytes);
+            }
+            bytes
+        }
+    };
+    (reading, bytes)
+}
+
+fn planted_by(random: &mut Random, seed: u64) -> (Reading, Vec<u8>) {
+    let number = PLANTED[random.below(PLANTED.len())];
+    let (reading, chances) = match number {
+        13 => (Stage, 0),
+        _ => (if seed % 2 == 0 { Stage } else { Run }, random.below(12)),
+    };
+    (
+        reading,
+        write(seed, reading, Some(Plan { number, chances })).bytes,
+    )
+}
+
+fn some_bytes(random: &mut Random) -> Vec<u8> {
+    let length = random.below(10);
+    (0..length)
+        .map(|_| MORE[random.below(MORE.len())])
+        .collect()
+}
+
 /// The count of cases by class, as rows of a table, with the sum.
 pub fn classes(cases: &[Case]) -> String {
     let mut counts: BTreeMap<&str, [usize; 2]> = BTreeMap::new();

@@ -1,11 +1,12 @@
-//! `oracle batch`, `oracle stage`, `oracle cases FILE`, `oracle corpus`, `oracle classes`.
+//! The oracle as a program: see README.md.
 
-use oracle::{batch, cases, corpus};
+use oracle::{batch, cases, corpus, Reading};
 use std::io::{self, Read, Write};
 use std::process::ExitCode;
 
 const USES: &str =
-    "uses: oracle batch | oracle stage | oracle cases FILE | oracle corpus | oracle classes";
+    "uses: oracle batch | oracle stage | oracle cases FILE | oracle corpus | oracle classes
+      oracle items | oracle random SEED COUNT | oracle against ITEMS";
 
 fn main() -> io::Result<ExitCode> {
     let words: Vec<String> = std::env::args().skip(1).collect();
@@ -16,6 +17,13 @@ fn main() -> io::Result<ExitCode> {
         ["cases", file] => return hold(file),
         ["corpus"] => write_corpus()?,
         ["classes"] => write_classes()?,
+        ["items"] => write_items(
+            corpus::corpus()
+                .into_iter()
+                .map(|case| (case.reading, case.input)),
+        )?,
+        ["random", seed, count] => return write_random(seed, count),
+        ["against", items] => return against(items),
         _ => {
             eprintln!("{USES}");
             return Ok(ExitCode::from(2));
@@ -55,4 +63,49 @@ fn write_corpus() -> io::Result<()> {
 /// The count of cases by class, as the rows of the table in README.md.
 fn write_classes() -> io::Result<()> {
     io::stdout().write_all(corpus::classes(&corpus::corpus()).as_bytes())
+}
+
+fn write_items(items: impl Iterator<Item = (Reading, Vec<u8>)>) -> io::Result<()> {
+    let mut output = io::BufWriter::new(io::stdout().lock());
+    for (reading, bytes) in items {
+        output.write_all(&batch::item(reading, &bytes))?;
+    }
+    output.flush()
+}
+
+/// COUNT items, the same for the same SEED.
+fn write_random(seed: &str, count: &str) -> io::Result<ExitCode> {
+    let (Ok(seed), Ok(count)) = (seed.parse::<u64>(), count.parse::<u64>()) else {
+        eprintln!("{USES}");
+        return Ok(ExitCode::from(2));
+    };
+    let first = seed.wrapping_mul(1 << 32);
+    write_items((0..count).map(|number| corpus::random(first.wrapping_add(number))))?;
+    Ok(ExitCode::SUCCESS)
+}
+
+/// Another program's answers to the items, from standard input, held against the oracle's; exit status 1 on a difference.
+fn against(items: &str) -> io::Result<ExitCode> {
+    let mut answers = Vec::new();
+    io::stdin().lock().read_to_end(&mut answers)?;
+    let file = io::BufReader::new(std::fs::File::open(items)?);
+    let held = batch::against(file, &answers)?;
+    let Some(first) = held.first else {
+        println!("{} items, 0 differ", held.agree);
+        return Ok(ExitCode::SUCCESS);
+    };
+    println!(
+        "{} items agree; then item {} differs",
+        held.agree, held.agree
+    );
+    println!(
+        "item: {}",
+        String::from_utf8_lossy(&first.item).escape_debug()
+    );
+    println!("the oracle: {}", first.answer.escape_debug());
+    println!(
+        "the other: {}",
+        String::from_utf8_lossy(&first.other).escape_debug()
+    );
+    Ok(ExitCode::FAILURE)
 }

@@ -99,3 +99,40 @@ fn cases_are_held_against_the_answers() {
     assert_eq!((held.cases, held.differences.len()), (4, 4));
     assert!(held.differences[0].starts_with("line 1: Stage named \"<v></w>\""));
 }
+
+#[test]
+fn another_programs_answers_are_held_against_these() {
+    let items = [item(b's', b"<a/>"), item(b'r', b"x"), item(b's', b"<")].concat();
+    let whole = answers(&items);
+    let held = oracle::batch::against(&items[..], whole.as_bytes()).unwrap();
+    assert!(held.agree == 3 && held.first.is_none());
+    let other = whole.replace("no 4 1 1 0 0", "no 4 0 0 0 0");
+    assert_ne!(whole, other);
+    let held = oracle::batch::against(&items[..], other.as_bytes()).unwrap();
+    assert!(held.agree == 2 && held.first.is_some());
+    let longer = whole + "ok 0\n";
+    let held = oracle::batch::against(&items[..], longer.as_bytes()).unwrap();
+    assert!(held.agree == 3 && held.first.is_some());
+}
+
+#[test]
+fn random_items_are_the_same_for_the_same_seed() {
+    let some: Vec<_> = (0..200).map(oracle::corpus::random).collect();
+    assert_eq!(
+        some,
+        (0..200).map(oracle::corpus::random).collect::<Vec<_>>()
+    );
+    let accepted = some
+        .iter()
+        .filter(|(reading, bytes)| {
+            matches!(
+                oracle::read(bytes, *reading, oracle::Limits::default()),
+                oracle::Answer::Accepted(_)
+            )
+        })
+        .count();
+    assert!(
+        20 < accepted && accepted < 180,
+        "{accepted} of 200 are accepted"
+    );
+}
