@@ -1,23 +1,16 @@
-use borrow.Author.Needs.{needs}
 use Rattle.stage.proofs.to_reply.Statement.{statement}
 use Rattle.stage.proofs.to_reply.Tie as tie
-use Rattle.stage.proofs.to_reply.Reads as reads
-use Rattle.stage.proofs.to_reply.Lts as lts
 use Rattle.stage.proofs.SoundSteps.{reply-steps}
 
--- src/lib.rt:45:21
 enum-known-r : tie.Need-enum-known-r
 enum-known-r c = search reply-steps
 
--- src/lib.rt:46:17
 enum-known-r-2 : tie.Need-enum-known-r-2
 enum-known-r-2 c = search reply-steps
 
--- src/lib.rt:41:1
 returns : tie.Need-returns
 returns c = search reply-steps
 
--- src/lib.rt:41:1
 returns-2 : tie.Need-returns-2
 returns-2 c = search reply-steps
 
