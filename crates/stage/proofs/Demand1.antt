@@ -47,18 +47,24 @@ module _ {reading : ℕ → Rule} (nu : Numbering reading) where
       where
         room : {a : Bool} {o : Forest} {p : ℕ} → answer standard reading s ≡ got a o p → (f : Bool) → leb (count o) (holds t) ≡ f
             → (r : Reply) × (t′ : List ℕ) × Reads reading s t r t′
-        room {a} {o} {p} e true h =
-            (Accepted (count o), written (records 0 0 missing o) t,
-            record { is = sym (ap (readInto t) {y = got a o p} e ∙ rw h); numbered = tt })
-        room {a} {o} {p} e false h =
-            (Refused tableTooSmall (count o) 0 0 0, t,
-            record { is = sym (ap (readInto t) {y = got a o p} e ∙ rw h); numbered = omega arith })
+        room {a} {o} {p} e true h = (
+          Accepted (count o),
+          written (records 0 0 missing o) t,
+          record { is = sym (ap (readInto t) {y = got a o p} e ∙ rw h); numbered = tt },
+        )
+        room {a} {o} {p} e false h = (
+          Refused tableTooSmall (count o) 0 0 0,
+          t,
+          record { is = sym (ap (readInto t) {y = got a o p} e ∙ rw h); numbered = omega arith },
+        )
 
         by : (x : Answer) → answer standard reading s ≡ x → (r : Reply) × (t′ : List ℕ) × Reads reading s t r t′
         by (got a o p) e = room e (leb (count o) (holds t)) refl
-        by (trouble n a b c d) e =
-            (Refused n a b c d, t,
-            record { is = sym (ap (readInto t) e); numbered = refusal-number nu standard s e .0 })
+        by (trouble n a b c d) e = (
+          Refused n a b c d,
+          t,
+          record { is = sym (ap (readInto t) e); numbered = refusal-number nu standard s e .0 },
+        )
 
   every-input : EveryInputIsAnswered reading
   every-input = record { byCheck = a-check; byRead = a-read }
@@ -84,13 +90,14 @@ module _ {reading : ℕ → Rule} (nu : Numbering reading) where
       room {o = o} e false h k =
           let w = one-outcome (Refused n a b c d) (Refused tableTooSmall (count o) 0 0 0) t′ t (v .numbered) (omega arith) k in
           let m : a ≡ count o = cc (w .0) in
-          let few = leb-false (count o) (holds t) h in
-          (inr (record {
-            isAccepted = rw m (check-got s e);
-            needed = omega arith;
-            said = w .0 ∙ rw m;
-          }),
-          w .1)
+          let few = leb-false (count o) (holds t) h in (
+            inr (record {
+              isAccepted = rw m (check-got s e);
+              needed = omega arith;
+              said = w .0 ∙ rw m;
+            }),
+            w .1,
+          )
 
       by : (x : Answer) → answer standard reading s ≡ x → refused n a b c d t′ ≡ readInto t x
           → (Checks reading s (Refused n a b c d) ⊎ TooSmall reading s t n a b c d) × (t′ ≡ t)
