@@ -109,7 +109,8 @@ module _ {f at n : ℕ} {o : List ℕ} (some : f ≡ 0 → ⊥) where
           said (then x y) (rw (t, sym w, sym ec, eb)) (omega arith)
 
 -- All digits.
-pub decimal-put : (n : ℕ) {r at : ℕ} {o o′ : List ℕ} → Prints r at 20 (decimalUpTo 20 n) o o′ → Prints r at 20 (decimal n) o o′
+pub decimal-put : (n : ℕ) {r at : ℕ} {o o′ : List ℕ} → Prints r at 20 (decimalUpTo 20 n) o o′
+    → Prints r at 20 (decimal n) o o′
 unfolding decimal
 decimal-put n x = x
 
@@ -190,12 +191,14 @@ pub row-put : (t : List ℕ) (k : ℕ) {p q e r at i j : ℕ} {o o₁ o₂ o₃ 
 row-put t k x y z w f g = said (then (then (then x y) z) w) (rw (f, g) (row-is t k)) (omega arith)
 
 -- No record.
-pub rows-none : (t : List ℕ) {left : ℕ} (at k : ℕ) (o : List ℕ) → left ≡ 0 → Prints at at (147 * left) (rowLines t left k) o o
+pub rows-none : (t : List ℕ) {left : ℕ} (at k : ℕ) (o : List ℕ) → left ≡ 0
+    → Prints at at (147 * left) (rowLines t left k) o o
 unfolding rowLines
 rows-none t at k o e = rw e (none at o)
 
 -- One record, and those behind it.
-pub rows-more : (t : List ℕ) (k : ℕ) {left p r at l i : ℕ} {o o₁ o₂ : List ℕ} → (left ≡ 0 → ⊥) → Prints p at 147 (rowLine t k) o o₁
+pub rows-more : (t : List ℕ) (k : ℕ) {left p r at l i : ℕ} {o o₁ o₂ : List ℕ} → (left ≡ 0 → ⊥)
+    → Prints p at 147 (rowLine t k) o o₁
     → Prints r p (147 * l) (rowLines t l i) o₁ o₂
     → l ≡ left - 1
     → i ≡ k + 1
@@ -220,7 +223,8 @@ unfolding okLine
 ok-put m x y z = then (then x y) z
 
 -- A place.
-pub place-put : (a b : ℕ) {p r at : ℕ} {o o₁ o₂ : List ℕ} → Prints p at 21 (field a) o o₁ → Prints r p 21 (field b) o₁ o₂
+pub place-put : (a b : ℕ) {p r at : ℕ} {o o₁ o₂ : List ℕ} → Prints p at 21 (field a) o o₁
+    → Prints r p 21 (field b) o₁ o₂
     → Prints r at 42 (field a ++ field b) o o₂
 place-put a b x y = then x y
 
@@ -250,7 +254,8 @@ unfolding noLine printed refused
 refused-is n a b c d t h = let e = ne-eqb n 0 (λ e. absurd (omega arith)) in rw e
 
 -- The count and the rows.
-pub answer-rows : (t : List ℕ) {x : Reply} {m m₁ l k p r at : ℕ} {o o₁ o₂ : List ℕ} → x ≡ Accepted m → Prints p at 24 (okLine m₁) o o₁
+pub answer-rows : (t : List ℕ) {x : Reply} {m m₁ l k p r at : ℕ} {o o₁ o₂ : List ℕ} → x ≡ Accepted m
+    → Prints p at 24 (okLine m₁) o o₁
     → Prints r p (147 * l) (rowLines t l k) o₁ o₂
     → m₁ ≡ m
     → l ≡ m
@@ -262,7 +267,8 @@ answer-rows t {m = m} h x y e f g =
     rw h (said (then x₁ y₁) (accepted-is m t) (omega arith))
 
 -- A refusal's line.
-pub answer-no : (t : List ℕ) {x : Reply} {n a b c d n₁ a₁ b₁ c₁ d₁ r at : ℕ} {o o′ : List ℕ} → Numbered x → x ≡ Refused n a b c d
+pub answer-no : (t : List ℕ) {x : Reply} {n a b c d n₁ a₁ b₁ c₁ d₁ r at : ℕ} {o o′ : List ℕ} → Numbered x
+    → x ≡ Refused n a b c d
     → Prints r at 108 (noLine n₁ a₁ b₁ c₁ d₁) o o′
     → n₁ ≡ n
     → a₁ ≡ a

@@ -5,7 +5,7 @@ use Prim.Native.Nat.{ℕ, _+_, _*_, _/_, _≤_, _<_, _^_}
 use native.Mathlib.Omega.{arith}
 use native.Mathlib.Decide.{decLt}
 use lib.ListN.{length, take, drop, replicate, length-replicate}
-use lib.Seq.{sets, length-sets, take-at}
+use lib.Seq.{length-sets, length-take-le, take-at}
 use borrow.Author.Needs.{needs}
 use borrow.Author.Tests.{le-ltb}
 use Rattle.rules.specs.Forest.{Forest}
@@ -33,8 +33,10 @@ fronted {r} {k} {u} {o} {o′} x h =
     let n : length o′ ≡ length o = ap length (x .is) ∙ length-sets o 0 u in
     let l : length u ≤ length o = omega arith in
     let w : length u ≡ r = omega arith in
+    let b : r ≤ length o′ = omega arith in
     record {
-      inside = omega arith;
+      inside = b;
+      counts = sym (length-take-le r o′ b);
       is = ap (take r) (x .is ∙ sets-written u o l) ∙ take-at u (drop (length u) o) r w;
     }
 
@@ -47,7 +49,7 @@ whole-long s {o′ = o′} i h x =
     let e = refused-is 1 0 0 0 0 programTable (omega arith)
     ∙ ap (λ (y : Answer). printed (readInto programTable y)) (sym (too-long programLimits stage s h)) in
     let w = fronted x (omega arith) in
-    record { inside = w .inside; is = w .is ∙ e }
+    record { inside = w .inside; counts = w .counts; is = w .is ∙ e }
 
 -- Within the program's length its limits answer as document 01's do.
 same-answer : (s : List ℕ) → length s ≤ 65_536 → answer standard stage s ≡ answer programLimits stage s
@@ -116,7 +118,7 @@ module _ {s t t′ : List ℕ} {r : Reply} (z : t ≡ zeros) (v : Reads stage s 
       let f = ap printed (v .is
       ∙ ap (readInto t) (same-answer s h)
       ∙ ap (λ (u : List ℕ). readInto u (answer programLimits stage s)) (z ∙ zeros-are)) in
-      record { inside = w .inside; is = w .is ∙ f }
+      record { inside = w .inside; counts = w .counts; is = w .is ∙ f }
 
 pub ruleset whole-steps = (needs, whole-long, whole-answer)
 

@@ -15,9 +15,10 @@ pub record Prints (r at k : ℕ) (text : List ℕ) (out out′ : List ℕ) : Typ
   pub near : r ≤ at + k
   pub is : out′ ≡ sets out at text
 
--- The first r bytes of out are the text.
+-- The first r bytes of out are the text. (`counts` follows from `inside`; both are what `&out[..r]` asks.)
 pub record Whole (r : ℕ) (text : List ℕ) (out : List ℕ) : Type 0 where
   pub inside : r ≤ length out
+  pub counts : r ≡ length (take r out)
   pub is : take r out ≡ text
 
 -- The field of the word k of a table.

@@ -26,7 +26,8 @@ use Rattle.stage.proofs.Tight.{one-outcome}
 module _ {reading : ℕ → Rule} (nu : Numbering reading) where
   module _ (s : List ℕ) where
     -- A check that says what the reading answers.
-    check-got : {a : Bool} {o : Forest} {p : ℕ} → answer standard reading s ≡ got a o p → Checks reading s (Accepted (count o))
+    check-got : {a : Bool} {o : Forest} {p : ℕ} → answer standard reading s ≡ got a o p
+        → Checks reading s (Accepted (count o))
     unfolding check checked
     check-got e = record { is = sym (ap checked e); numbered = tt }
 
@@ -45,7 +46,8 @@ module _ {reading : ℕ → Rule} (nu : Numbering reading) where
     unfolding read readInto
     a-read t = by (answer standard reading s) refl
       where
-        room : {a : Bool} {o : Forest} {p : ℕ} → answer standard reading s ≡ got a o p → (f : Bool) → leb (count o) (holds t) ≡ f
+        room : {a : Bool} {o : Forest} {p : ℕ} → answer standard reading s ≡ got a o p → (f : Bool)
+            → leb (count o) (holds t) ≡ f
             → (r : Reply) × (t′ : List ℕ) × Reads reading s t r t′
         room {a} {o} {p} e true h = (
           Accepted (count o),
@@ -81,14 +83,16 @@ module _ {reading : ℕ → Rule} (nu : Numbering reading) where
   unfolding read readInto
   refusal-of s t t′ n a b c d v = by (answer standard reading s) refl (v .is)
     where
-      room : {g : Bool} {o : Forest} {p : ℕ} → answer standard reading s ≡ got g o p → (f : Bool) → leb (count o) (holds t) ≡ f
+      room : {g : Bool} {o : Forest} {p : ℕ} → answer standard reading s ≡ got g o p → (f : Bool)
+          → leb (count o) (holds t) ≡ f
           → refused n a b c d t′
           ≡ pick f (accepted (count o) (written (records 0 0 missing o) t)) (refused tableTooSmall (count o) 0 0 0 t)
           → (Checks reading s (Refused n a b c d) ⊎ TooSmall reading s t n a b c d) × (t′ ≡ t)
       room {o = o} e true h k =
           absurd (not-both n a b c d (count o) t′ (written (records 0 0 missing o) t) (v .numbered) k)
       room {o = o} e false h k =
-          let w = one-outcome (Refused n a b c d) (Refused tableTooSmall (count o) 0 0 0) t′ t (v .numbered) (omega arith) k in
+          let w = one-outcome (Refused n a b c d) (Refused tableTooSmall (count o) 0 0 0) t′ t (v .numbered)
+          (omega arith) k in
           let m : a ≡ count o = cc (w .0) in
           let few = leb-false (count o) (holds t) h in (
             inr (record {

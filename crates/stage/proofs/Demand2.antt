@@ -16,7 +16,8 @@ use Rattle.jsx.specs.Byte.{bytesOf}
 use Rattle.jsx.specs.Kind as Kind
 use Rattle.jsx.specs.Refusal.{tableTooSmall, namesDiffer}
 use Rattle.jsx.specs.Reading.{standard, answer, stage, run}
-use Rattle.jsx.specs.Table.{Outcome, missing, accepted, refused, holds, written, checked, readInto, check, read, tableWord}
+use Rattle.jsx.specs.Table.{Outcome, missing, accepted, refused, holds}
+use Rattle.jsx.specs.Table.{written, checked, readInto, check, read, tableWord}
 use Rattle.jsx.specs.Compose.{countOf, ReadAs, rowsOf}
 use Rattle.jsx.proofs.Case.{wholeLanguage}
 use Rattle.jsx.proofs.Accepted.{check-zero, accepted-answer, accepted-check, accepted-read, read-accepted}
@@ -66,7 +67,8 @@ module _ {reading : ℕ → Rule} (nu : Numbering reading) where
       ap (readInto t) {y = got true u (e .0)} (e .1) ∙ rw f
 
   -- Where a read accepts, so does the check.
-  read-zero : (s t : List ℕ) (m : ℕ) (t′ : List ℕ) → Reads reading s t (Accepted m) t′ → check standard reading s .number ≡ 0
+  read-zero : (s t : List ℕ) (m : ℕ) (t′ : List ℕ) → Reads reading s t (Accepted m) t′
+      → check standard reading s .number ≡ 0
   unfolding read readInto check checked accepted
   read-zero s t m t′ v = by (answer standard reading s) refl (v .is)
     where
@@ -195,7 +197,8 @@ not-the-first-child-alone f right same =
 -- The count is the check's.
 pub no-invented-count : NoInventedCount
 no-invented-count f right s t m h =
-    let x = only-rows stage-numbers s t m (f s t .1) (subst (λ (r : Reply). Reads stage s t r (f s t .1)) h (right s t)) in
+    let x = only-rows stage-numbers s t m (f s t .1) (subst (λ (r
+        : Reply). Reads stage s t r (f s t .1)) h (right s t)) in
     x .2 ∙ sym (read-accepted standard stage s (x .1) .1)
 
 -- ---- easy slips

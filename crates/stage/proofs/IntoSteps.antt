@@ -31,7 +31,8 @@ use Rattle.table.specs.declared.Slot.{Slot}
 use Rattle.table.specs.Slot.{slotBehind}
 use Rattle.table.specs.Reader.{Room, Made}
 use Rattle.table.proofs.Made.{refused}
-use Rattle.table.proofs.Upto.{Upto, upto-begin, upto-as, upto-count, upto-no, upto-when, upto-else, leaf-goes, leaf-stops}
+use Rattle.table.proofs.Upto.{Upto, upto-begin, upto-as, upto-count}
+use Rattle.table.proofs.Upto.{upto-no, upto-when, upto-else, leaf-goes, leaf-stops}
 use Rattle.table.proofs.Upto.{made-goes, made-stops, upto-made, same-slot}
 use Rattle.table.proofs.Asked.{reader-asked}
 use Rattle.tag.proofs.Rules.{goes-sibling}

@@ -50,4 +50,5 @@ whole = record { number = 0; parent = missing }
 -- The first two tests of an input: they are passed, or every reading gives their refusal.
 pub record Sound (r : Ans) (s : List ℕ) : Type 0 where
   pub passed : (p m : ℕ) → r ≡ Got p m → (length s ≤ 1_048_576) × WellFormed s
-  pub stopped : (n a b c d : ℕ) → r ≡ No n a b c d → (reading : ℕ → Rule) → answer standard reading s ≡ trouble n a b c d
+  pub stopped : (n a b c d : ℕ) → r ≡ No n a b c d → (reading : ℕ → Rule)
+      → answer standard reading s ≡ trouble n a b c d

@@ -15,7 +15,8 @@ pub add-put-byte : (t : ℕ) → put-digits-lts.Need-add-put-byte (put-digits-ca
 add-put-byte t c = search number-steps
 
 -- src/lib.rt:54:9
-pub put-byte-requires : (t : ℕ) → put-digits-lts.Need-put-byte-requires (put-digits-calls t) (put-digits-at t) put-digits.Post
+pub put-byte-requires : (t : ℕ)
+    → put-digits-lts.Need-put-byte-requires (put-digits-calls t) (put-digits-at t) put-digits.Post
 put-byte-requires t c κs = search number-steps
 
 -- src/lib.rt:54:9
@@ -31,7 +32,8 @@ pub sub-put-digits : (t : ℕ) → put-digits-lts.Need-sub-put-digits (put-digit
 sub-put-digits t c = search number-steps
 
 -- src/lib.rt:56:9
-pub put-digits-requires : (t : ℕ) → put-digits-lts.Need-put-digits-requires (put-digits-calls t) (put-digits-at t) put-digits.Post
+pub put-digits-requires : (t : ℕ)
+    → put-digits-lts.Need-put-digits-requires (put-digits-calls t) (put-digits-at t) put-digits.Post
 put-digits-requires t c κs = search number-steps
 
 -- src/lib.rt:57:22
@@ -39,7 +41,8 @@ pub add-put-byte-2 : (t : ℕ) → put-digits-lts.Need-add-put-byte-2 (put-digit
 add-put-byte-2 t c = search number-steps
 
 -- src/lib.rt:57:5
-pub put-byte-requires-2 : (t : ℕ) → put-digits-lts.Need-put-byte-requires-2 (put-digits-calls t) (put-digits-at t) put-digits.Post
+pub put-byte-requires-2 : (t : ℕ)
+    → put-digits-lts.Need-put-byte-requires-2 (put-digits-calls t) (put-digits-at t) put-digits.Post
 put-byte-requires-2 t c κs = search number-steps
 
 -- src/lib.rt:46:1
