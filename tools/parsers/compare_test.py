@@ -1,0 +1,91 @@
+#!/usr/bin/env python3
+"""Tests of compare: what counts as a difference, and that a difference shrinks."""
+import os
+import re
+import sys
+import unittest
+from importlib.machinery import SourceFileLoader
+from importlib.util import module_from_spec, spec_from_loader
+from unittest import mock
+
+from domain import Answer
+
+HERE = os.path.dirname(os.path.abspath(__file__))
+sys.dont_write_bytecode = True
+loader = SourceFileLoader("compare", os.path.join(HERE, "compare"))
+compare = module_from_spec(spec_from_loader("compare", loader))
+loader.exec_module(compare)
+
+STAGE = ["ok 3", "0 1 0 4 - 3 0", "1 18 0 4 0 3 0", "2 4 1 2 1 3 0"]
+ROWS = [[1, 0, 4, -1, 0], [18, 0, 4, 0, 0], [16, 1, 2, 1, 0]]
+
+
+def port_answer(lines):
+    lines = iter(lines)
+    return compare.port_answer(next(lines), lines)
+
+
+class Difference(unittest.TestCase):
+    def differs(self, port, parser):
+        return compare.difference(b"<A/>", port_answer(port), parser)
+
+    def test_the_same_rows(self):
+        self.assertIsNone(self.differs(STAGE, {"rows": ROWS}))
+        self.assertIsNone(self.differs(STAGE, {"rows": None}))
+
+    def test_each_word_of_a_row_counts(self):
+        for row in range(3):
+            for word in range(5):
+                rows = [list(one) for one in ROWS]
+                rows[row][word] += 1
+                with self.subTest(row=row, word=word):
+                    self.assertIn("other spans", self.differs(STAGE, {"rows": rows})[1])
+
+    def test_more_and_less_rows(self):
+        self.assertIn("more rows", self.differs(STAGE, {"rows": ROWS + [[14, 4, 5, -1, 0]]})[1])
+        self.assertIn("less rows", self.differs(STAGE, {"rows": ROWS[:2]})[1])
+
+    def test_one_accepts_and_the_other_refuses(self):
+        self.assertEqual(self.differs(STAGE, {"no": 'Expected ">" but found "if"'}), ("accepts", 'refuses: Expected ">" but found ..'))
+        self.assertEqual(self.differs(["no 6 3 3 0 0"], {"rows": ROWS}), ("refuses by 6", "accepts"))
+        self.assertEqual(self.differs(["no 3 2 2 0 0"], {"rows": None}), ('refuses by 3 at "/"', "accepts"))
+        self.assertIsNone(self.differs(["no 6 3 3 0 0"], {"no": "Unexpected token"}))
+
+    def test_the_checker_stands_with_its_parser(self):
+        answers = compare.with_checker({"typescript": {"rows": None}, "checker": {"no": "TS17001: twice"}})
+        self.assertEqual(self.differs(STAGE, answers["typescript"]), ("accepts", "accepts, its checker refuses: TS17001: twice"))
+        self.assertEqual(compare.with_checker({"typescript": {"no": "TS1005"}}), {"typescript": {"no": "TS1005"}})
+
+
+class Shrunk(unittest.TestCase):
+    def shrunk(self, text, stays):
+        """What remains of the text where the difference is there as long as `stays` says so."""
+        def differences_of(_command, items, _parsers):
+            return {n: {"p": ("one", "other")} if stays(data) else {} for n, (_, data) in enumerate(items)}
+
+        with mock.patch.object(compare, "differences_of", differences_of):
+            (item, _), = compare.shrunk([], ["p"], [(("s", text), ("one", "other"))])
+        return item[1]
+
+    def test_bytes_that_do_not_matter_are_dropped(self):
+        text = b"<v>some text</v>{and + more}!<another/>, that is, 60 bytes or more of it <x y={z}/>? and an end"
+        self.assertEqual(self.shrunk(text, lambda data: b"!" in data and b"?" in data), b"!?")
+
+    def test_two_names_shrink_together(self):
+        self.assertEqual(self.shrunk(b"<long></long>", lambda data: re.fullmatch(rb"<(\w+)></\1>", data)), b"<a></a>")
+
+    def test_another_class_is_no_success(self):
+        self.assertEqual(self.shrunk(b"{a+b}", lambda data: data == b"{a+b}"), b"{a+b}")
+
+
+class Items(unittest.TestCase):
+    def test_a_batch_is_read_back(self):
+        items = [("s", b"<a/>"), ("r", b""), ("r", "\u2028".encode())]
+        self.assertEqual(list(compare.items_of(compare.batch_of(items))), items)
+
+    def test_a_refusal(self):
+        self.assertEqual(port_answer(["no 7 1 2 5 6"]), Answer(7, [1, 2, 5, 6], None))
+
+
+if __name__ == "__main__":
+    unittest.main()
