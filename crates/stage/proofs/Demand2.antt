@@ -197,8 +197,8 @@ not-the-first-child-alone f right same =
 -- The count is the check's.
 pub no-invented-count : NoInventedCount
 no-invented-count f right s t m h =
-    let x = only-rows stage-numbers s t m (f s t .1) (subst (λ (r
-        : Reply). Reads stage s t r (f s t .1)) h (right s t)) in
+    let v = subst (λ (r : Reply). Reads stage s t r (f s t .1)) h (right s t) in
+    let x = only-rows stage-numbers s t m (f s t .1) v in
     x .2 ∙ sym (read-accepted standard stage s (x .1) .1)
 
 -- ---- easy slips
