@@ -3,24 +3,21 @@ use mathlib.Core.Path.{_≡_, refl, sym, ap, _∙_}
 use mathlib.Core.List.{List}
 use Prim.Native.Nat.{ℕ, _+_, _*_, _/_, _≤_, _<_, _^_}
 use native.Mathlib.Omega.{arith}
-use native.Mathlib.Decide.{decLt}
 use lib.ListN.{length, take, drop, replicate, length-replicate}
 use lib.Seq.{length-sets, length-take-le, take-at}
 use borrow.Author.Needs.{needs}
 use borrow.Author.Tests.{le-ltb}
-use Rattle.rules.specs.Forest.{Forest}
 use Rattle.rules.specs.Parse.{Answer}
-use Rattle.rules.specs.Record.{rowWords, count}
+use Rattle.rules.specs.Record.{rowWords}
 use Rattle.jsx.specs.Reading.{standard, answer, stage}
 use Rattle.jsx.specs.Table.{holds, written, readInto, read}
-use Rattle.jsx.specs.Compose.{ReadAs, rowsOf}
 use Rattle.jsx.specs.Program.{printed, programLimits, programTable, output}
 use Rattle.jsx.proofs.Calls.{too-long}
 use Rattle.table.proofs.Laws.{sets-written}
 use Rattle.stage.specs.declared.Reply.{Reply}
 use Rattle.stage.specs.declared.Reply.the-variants.{Accepted, Refused}
 use Rattle.stage.specs.Call.{outcome, Reads}
-use Rattle.stage.proofs.Demand2.{stage-writes}
+use Rattle.stage.proofs.Demand2.{stage-writes, reads-fit}
 use Rattle.print.specs.Text.{Prints, Whole, noLine, most, Small}
 use Rattle.print.proofs.Steps.{refused-is}
 
@@ -59,20 +56,6 @@ same-answer s h =
     let f = le-ltb 65_536 (length s) h in
     rw (e, f)
 
--- A read's count is within its table.
-reads-fit : (s t : List ℕ) (m : ℕ) (t′ : List ℕ) → Reads stage s t (Accepted m) t′ → m ≤ holds t
-reads-fit s t m t′ v = by (stage-writes .onlyThat s t m t′ v)
-  where
-    by : (u : Forest) × ReadAs standard stage s u × (m ≡ count u) × (t′ ≡ written (rowsOf u) t) → m ≤ holds t
-    by (u, x, e, w) = room (decLt (holds t) m)
-      where
-        room : Dec (holds t < m) → m ≤ holds t
-        room (yes h) =
-            let z = stage-writes .withoutRoom s t u x (omega arith) (Accepted m) t′ v .0 in
-            let one : _≡_ {A = ℕ} 0 1 = cc z in
-            absurd (omega arith)
-        room (no h) = omega arith
-
 program-holds : holds programTable ≡ 2_048
 unfolding programTable holds
 program-holds = ap (λ (n : ℕ). n / rowWords) (length-replicate {A = ℕ} (rowWords * 2_048) 0)
@@ -91,7 +74,7 @@ module _ {s t t′ : List ℕ} {r : Reply} (z : t ≡ zeros) (v : Reads stage s 
     where
       by : (r : Reply) → Reads stage s t r t′ → Small r
       by (Accepted m) w =
-          let f = reads-fit s t m t′ w in
+          let f = reads-fit stage-writes s t m t′ w in
           let g : holds t ≡ 2_048 = ap holds (z ∙ zeros-are) ∙ program-holds in
           omega arith
       by (Refused n a b c d) w = tt
@@ -101,7 +84,7 @@ module _ {s t t′ : List ℕ} {r : Reply} (z : t ≡ zeros) (v : Reads stage s 
     where
       by : (r : Reply) → Reads stage s t r t′ → most r ≤ 301_164
       by (Accepted m) w =
-          let f = reads-fit s t m t′ w in
+          let f = reads-fit stage-writes s t m t′ w in
           let g : holds t ≡ 2_048 = ap holds (z ∙ zeros-are) ∙ program-holds in
           omega arith
       by (Refused n a b c d) w = omega arith

@@ -134,7 +134,7 @@ pub fn put_row(out: &mut [u8], at: usize, t: &[u32], k: usize) -> usize
 }
 
 // The lines of `left` records from k on.
-fn put_rows(out: &mut [u8], at: usize, t: &[u32], left: usize, k: usize) -> usize
+pub fn put_rows(out: &mut [u8], at: usize, t: &[u32], left: usize, k: usize) -> usize
     requires { ⌜ (at + 147 * left < 2 ^ 62) × (k + left < 2 ^ 32) ⌝ }
     ensures { λ r. ⌜ Prints r at (147 * left) (rowLines (now (t .entry)) left k) (now (out .entry)) (now (out .exit)) ⌝ }
 {

@@ -155,7 +155,7 @@ fn more(t: &mut [u32], s: &[u8], at: usize, d: usize, slot: Slot) -> Ans
 }
 
 // A name, a number, a string or `(conditional)`.
-fn primary(t: &mut [u32], s: &[u8], at: usize, d: usize, slot: Slot) -> Ans
+fn prim(t: &mut [u32], s: &[u8], at: usize, d: usize, slot: Slot) -> Ans
     requires { ⌜ Room 3 (now s) at slot ⌝ }
     ensures { λ r. ⌜ Made r (now (s .entry)) (primaryRule (within d)) at 1 slot 0 (now (t .entry)) (now (t .exit)) ⌝ }
 {
@@ -223,7 +223,7 @@ fn postfix(t: &mut [u32], s: &[u8], at: usize, d: usize, slot: Slot) -> Ans
     requires { ⌜ Room 3 (now s) at slot ⌝ }
     ensures { λ r. ⌜ Made r (now (s .entry)) (postfixRule (within d)) at 1 slot 0 (now (t .entry)) (now (t .exit)) ⌝ }
 {
-    let r = primary(t, s, at, d, slot);
+    let r = prim(t, s, at, d, slot);
     let Ans::Got(e, k) = r else {
         return r;
     };
@@ -259,7 +259,7 @@ fn lone(t: &mut [u32], s: &[u8], at: usize, n: u32, d: usize, slot: Slot) -> Ans
     let Ans::Got(a, _) = r else {
         return r;
     };
-    let r2 = element(t, s, at, a, d, slot);
+    let r2 = elem(t, s, at, a, d, slot);
     let Ans::Got(e, m) = r2 else {
         return r2;
     };
@@ -466,7 +466,7 @@ fn held(t: &mut [u32], s: &[u8], at: usize, q: usize, d: usize, slot: Slot) -> A
 }
 
 // `...`, an expression and `}`.
-fn in_spread(t: &mut [u32], s: &[u8], at: usize, d: usize, slot: Slot) -> Ans
+fn in_rest(t: &mut [u32], s: &[u8], at: usize, d: usize, slot: Slot) -> Ans
     requires { ⌜ Room 2 (now s) at slot ⌝ }
     ensures { λ r. ⌜ Made r (now (s .entry)) (inSpread (within d)) at 2 slot 0 (now (t .entry)) (now (t .exit)) ⌝ }
 {
@@ -491,7 +491,7 @@ fn spread(t: &mut [u32], s: &[u8], at: usize, q: usize, kind: usize, d: usize, s
     ensures { λ r. ⌜ Made r (now (s .entry)) (spreadRule kind (within d)) at 3 slot 0 (now (t .entry)) (now (t .exit)) ⌝ }
 {
     let i = table::start(t.len(), ROW_WORDS);
-    let r = in_spread(&mut t[i..], s, q, d, slot.inside());
+    let r = in_rest(&mut t[i..], s, q, d, slot.inside());
     let Ans::Got(z, m) = r else {
         return r;
     };
@@ -713,7 +713,7 @@ fn named(t: &mut [u32], s: &[u8], at: usize, a: usize, d: usize, slot: Slot) -> 
 }
 
 // A fragment and its record, with d levels inside it.
-fn fragment(t: &mut [u32], s: &[u8], at: usize, a: usize, d: usize, slot: Slot) -> Ans
+fn frag(t: &mut [u32], s: &[u8], at: usize, a: usize, d: usize, slot: Slot) -> Ans
     requires { ⌜ Room 3 (now s) at slot × Past a (now s) pass at 1 × (byteAt (now s) a ≡ 62) ⌝ }
     ensures { λ r. ⌜ Made r (now (s .entry)) (fragmentIn d (within d)) at 1 slot 0 (now (t .entry)) (now (t .exit)) ⌝ }
 {
@@ -739,7 +739,7 @@ fn fragment(t: &mut [u32], s: &[u8], at: usize, a: usize, d: usize, slot: Slot) 
 }
 
 // An element or a fragment.
-fn element(t: &mut [u32], s: &[u8], at: usize, a: usize, d: usize, slot: Slot) -> Ans
+fn elem(t: &mut [u32], s: &[u8], at: usize, a: usize, d: usize, slot: Slot) -> Ans
     requires { ⌜ Room 3 (now s) at slot × Past a (now s) pass at 1 ⌝ }
     ensures { λ r. ⌜ Made r (now (s .entry)) (within d .element) at 1 slot 0 (now (t .entry)) (now (t .exit)) ⌝ }
 {
@@ -747,7 +747,7 @@ fn element(t: &mut [u32], s: &[u8], at: usize, a: usize, d: usize, slot: Slot) -
         return token::too_deep(s, at, a);
     }
     if lex::byte(s, a) == GREATER {
-        return fragment(t, s, at, a, d - 1, slot);
+        return frag(t, s, at, a, d - 1, slot);
     }
     named(t, s, at, a, d - 1, slot)
 }
@@ -769,7 +769,7 @@ fn child(t: &mut [u32], s: &[u8], at: usize, d: usize, slot: Slot) -> Ans
         if lex::byte(s, a) == SLASH {
             return Ans::Got(at, 0);
         }
-        return element(t, s, at, a, d, slot);
+        return elem(t, s, at, a, d, slot);
     }
     if b == OPEN_BRACE {
         if d == 0 {

@@ -118,6 +118,22 @@ stage-writes = writes stage-numbers
 pub run-writes : WritesWhatIsRead run
 run-writes = writes run-numbers
 
+-- A read's count is within its table.
+pub reads-fit : {reading : ℕ → Rule} → WritesWhatIsRead reading → (s t : List ℕ) (m : ℕ) (t′ : List ℕ)
+    → Reads reading s t (Accepted m) t′
+    → m ≤ holds t
+reads-fit {reading} writes s t m t′ v = by (writes .onlyThat s t m t′ v)
+  where
+    by : (u : Forest) × ReadAs standard reading s u × (m ≡ count u) × (t′ ≡ written (rowsOf u) t) → m ≤ holds t
+    by (u, x, e, w) = room (decLt (holds t) m)
+      where
+        room : Dec (holds t < m) → m ≤ holds t
+        room (yes h) =
+            let z = writes .withoutRoom s t u x (omega arith) (Accepted m) t′ v .0 in
+            let one : _≡_ {A = ℕ} 0 1 = cc z in
+            absurd (omega arith)
+        room (no h) = omega arith
+
 -- ---- wrong readers
 
 -- What a right reader gives where the read's outcome is known.

@@ -1,0 +1,2 @@
+-- What an item of a batch says.
+pub mod Item
