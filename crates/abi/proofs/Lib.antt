@@ -1,0 +1,2 @@
+-- A law for each step of the calls.
+pub mod Steps

@@ -1,0 +1,2 @@
+-- A reply as C has it: a number, and four values.
+pub mod Said
