@@ -1,0 +1,11 @@
+use mathlib.Core.Path.{sym}
+use Prim.Native.Nat.{ℕ}
+use lib.ListN.{length-replicate}
+use Rattle.explain.proofs.input_room.Statement.{statement}
+use Rattle.explain.proofs.input_room.Tie as tie
+
+returns : tie.Need-returns
+returns c = sym (length-replicate {A = ℕ} 1_048_577 0)
+
+pub input-room-spec : {M : Type 1} → statement M
+input-room-spec = tie.close (tie.spec returns)

@@ -1,0 +1,85 @@
+// What `explain` tells of some stages: each refusal, places on several lines, tabs, wide characters, long lines, trees.
+ghost use mathlib.Core.Path.{_≡_};
+ghost use lib.ListN.{length};
+use libc::STDOUT_FILENO;
+
+fn show(s: &[u8]) {
+    let mut t = [0u32; 768];
+    let mut depths = [0u32; 128];
+    tell::tell(s, &mut t, &mut depths);
+    io::write_all(STDOUT_FILENO, b"\n");
+}
+
+fn closings() {
+    show(b"<v></w>");
+    show(b"<a.b>\n  <c:d>\n  </c:d>\n</a.c>");
+    show(b"<></a>");
+    show(b"<a\tb>\r\n\t<c/>\r\n</>");
+}
+
+fn tokens() {
+    show(b"");
+    show(b"<a b=c/>");
+    show(b"<a>\n\t\t{1 +}</a>");
+    show(b"<a>x");
+    show(b"<a b='c/>");
+    show(b"<a>/* x */{/* y}</a>");
+    show(b"<a>1 > 0</a>");
+    show(b"<f.b-/>");
+    show(b"<a b={ }/>");
+    show(b"<a/>\n<b/>");
+    show(b"<a/> x");
+    show(b"<x>{a, b}</x>");
+}
+
+fn bytes() {
+    show(b"<a>\xea\xb0\x80\xeb\x82\x98} </a>");
+    show(b"<a b=\"\xc3\xa9\t\xf0\x9f\x98\x80\">}</a>");
+    show(b"<a>\xc3\xa9\xff\xc3\xa9</a>");
+    show(b"<a>\x01}</a>");
+}
+
+fn long_lines() {
+    show(
+        b"<a>0123456789012345678901234567890123456789012345678901234567890123456789012345678901234567890123456789}012345678901234567890123456789012345678901234567890123456789012345678901234567890123456789</a>",
+    );
+    show(
+        b"<a>\xea\xb0\x80\xea\xb0\x80\xea\xb0\x80\xea\xb0\x80\xea\xb0\x80\xea\xb0\x80\xea\xb0\x80\xea\xb0\x80\xea\xb0\x80\xea\xb0\x80\xea\xb0\x80\xea\xb0\x80\xea\xb0\x80\xea\xb0\x80\xea\xb0\x80\xea\xb0\x80\xea\xb0\x80\xea\xb0\x80\xea\xb0\x80\xea\xb0\x80\xea\xb0\x80\xea\xb0\x80\xea\xb0\x80\xea\xb0\x80\xea\xb0\x80\xea\xb0\x80x}</a>",
+    );
+}
+
+// One byte more than an input may have.
+fn too_long() -> [u8; 1_048_577]
+    ensures { λ r. ⌜ 1_048_577 ≡ length r ⌝ }
+{
+    [0; 1_048_577]
+}
+
+fn limits() {
+    let input = too_long();
+    show(&input);
+    show(
+        b"<a><a/><a/><a/><a/><a/><a/><a/><a/><a/><a/><a/><a/><a/><a/><a/><a/><a/><a/><a/><a/><a/><a/><a/><a/><a/><a/><a/><a/><a/><a/><a/><a/><a/><a/><a/><a/><a/><a/><a/><a/><a/><a/><a/></a>",
+    );
+    show(
+        b"<a>{((((((((((((((((((((((((((((((((((((((((((((((((((((((((((((((((1))))))))))))))))))))))))))))))))))))))))))))))))))))))))))))))))}</a>",
+    );
+}
+
+fn trees() {
+    show(b"<v>hi</v>");
+    show(b"<a-b.c d e:f='g' {...h} i={<j/>}>\n  {k ? <l/> : <></>}{}{...m}\n</a-b.c>");
+    show(b"<this.x y={/* none but this */ 1}/>");
+    show(
+        b"<t>a text of more than one hundred and forty-four bytes: 0123456789 0123456789 0123456789 0123456789 0123456789 0123456789 0123456789 0123456789 0123456789</t>",
+    );
+}
+
+fn main() {
+    closings();
+    tokens();
+    bytes();
+    long_lines();
+    limits();
+    trees();
+}

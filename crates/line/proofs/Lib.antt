@@ -1,0 +1,2 @@
+-- A law for each step of a line.
+pub mod Steps

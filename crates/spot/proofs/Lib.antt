@@ -1,0 +1,2 @@
+-- A law for each step.
+pub mod Steps

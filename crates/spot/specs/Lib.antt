@@ -1,0 +1,2 @@
+-- Lines and columns.
+pub mod Spot
