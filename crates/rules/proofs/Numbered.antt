@@ -282,40 +282,53 @@ module _ {j : ℕ} {l : Label} {t : Forest} {q : ℕ} where
     split = (λ i. a ++ h .split i) ∙ sym (append-assoc a (h .before) _);
   }
 
+  -- The same row, its parent said otherwise.
+  said-under : {n p p′ : ℕ} {s : List ℕ} → Cut n j l t q p s → p′ ≡ p → Cut n j l t q p′ s
+  said-under {n} {s = s} h e = subst (λ (p : ℕ). Cut n j l t q p s) (sym e) h
+
   -- The table of a forest has the row of the node that a way leads to.
   way-cut : {at n : ℕ} {u : Forest}
       → Way j l t q at n u
       → (par : ℕ)
       → Cut n j l t q (parentOf n par j u) (records at n par u)
   unfolding records parentOf
-  way-cut (self {at} {n} {k} {x} {c} {v} e p s a) par = rw (eq-eqb j n e) (record {
-    before = [];
-    rest = records at (n + 1) n c ++ records (at + width c) (n + (1 + count c)) par v;
-    kind = k;
-    extra = x;
-    label = p;
-    size = omega arith;
-    split = λ i. row k (sym a i) (sym a i + width (sym s i)) par (sym e i + (1 + count (sym s i))) x
-        (records at (n + 1) n c ++ records (at + width c) (n + (1 + count c)) par v);
-  })
+  way-cut (self {at} {n} {k} {x} {c} {v} e p s a) par =
+      let f : parentOf n par j (group (node k x) c v) ≡ par = rw (eq-eqb j n e) refl in
+      said-under (record {
+        before = [];
+        rest = records at (n + 1) n c ++ records (at + width c) (n + (1 + count c)) par v;
+        kind = k;
+        extra = x;
+        label = p;
+        size = omega arith;
+        split = λ i. row k (sym a i) (sym a i + width (sym s i)) par (sym e i + (1 + count (sym s i))) x
+            (records at (n + 1) n c ++ records (at + width c) (n + (1 + count c)) par v);
+      }) f
   way-cut (inNode {at} {n} {k} {x} {c} {v} w) par =
       let h = way-bounds w in
-      rw (ne-eqb j n (omega arith), lt-ltb j (n + (1 + count c)) (omega arith))
+      let f : parentOf n par j (group (node k x) c v) ≡ parentOf (n + 1) n j c =
+      rw (ne-eqb j n (omega arith), lt-ltb j (n + (1 + count c)) (omega arith)) refl in
+      said-under
       (cut-further (cut-more (way-cut w n) (records (at + width c) (n + (1 + count c)) par v))
-      (row k at (at + width c) par (n + (1 + count c)) x []) (omega arith))
+      (row k at (at + width c) par (n + (1 + count c)) x []) (omega arith)) f
   way-cut (pastNode {at} {n} {k} {x} {c} {v} w) par =
       let h = way-bounds w in
       let z = length-records c at (n + 1) n in
-      rw (ne-eqb j n (omega arith), le-ltb j (n + (1 + count c)) (omega arith))
+      let f : parentOf n par j (group (node k x) c v) ≡ parentOf (n + (1 + count c)) par j v =
+      rw (ne-eqb j n (omega arith), le-ltb j (n + (1 + count c)) (omega arith)) refl in
+      said-under
       (cut-further (way-cut w par) (row k at (at + width c) par (n + (1 + count c)) x (records at (n + 1) n c))
-      (omega arith))
+      (omega arith)) f
   way-cut (inContent {at} {n} {d} {c} {v} w) par =
       let h = way-bounds w in
-      rw (lt-ltb j (n + count c) (omega arith)) (cut-more (way-cut w par) (records (at + width c) (n + count c) par v))
+      let f : parentOf n par j (group (content d) c v) ≡ parentOf n par j c = rw (lt-ltb j (n + count c) (omega arith)) refl in
+      said-under (cut-more (way-cut w par) (records (at + width c) (n + count c) par v)) f
   way-cut (pastContent {at} {n} {d} {c} {v} w) par =
       let h = way-bounds w in
       let z = length-records c at n par in
-      rw (le-ltb j (n + count c) (omega arith)) (cut-further (way-cut w par) (records at n par c) (omega arith))
+      let f : parentOf n par j (group (content d) c v) ≡ parentOf (n + count c) par j v =
+      rw (le-ltb j (n + count c) (omega arith)) refl in
+      said-under (cut-further (way-cut w par) (records at n par c) (omega arith)) f
   way-cut (pastByte w) par = way-cut w par
 
 -- Past one list a list begins anew.
