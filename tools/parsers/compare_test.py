@@ -8,8 +8,6 @@ from importlib.machinery import SourceFileLoader
 from importlib.util import module_from_spec, spec_from_loader
 from unittest import mock
 
-from domain import Answer
-
 HERE = os.path.dirname(os.path.abspath(__file__))
 sys.dont_write_bytecode = True
 loader = SourceFileLoader("compare", os.path.join(HERE, "compare"))
@@ -84,7 +82,7 @@ class Items(unittest.TestCase):
         self.assertEqual(list(compare.items_of(compare.batch_of(items))), items)
 
     def test_a_refusal(self):
-        self.assertEqual(port_answer(["no 7 1 2 5 6"]), Answer(7, [1, 2, 5, 6], None))
+        self.assertEqual(port_answer(["no 7 1 2 5 6"]), compare.Answer(7, [1, 2, 5, 6], None))
 
 
 if __name__ == "__main__":

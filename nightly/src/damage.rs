@@ -1,0 +1,278 @@
+//! Items made of recorded stages: as they are, or damaged as a bad line damages them.
+
+use crate::item::{Item, Reading};
+use crate::random::Random;
+use crate::stages::{Stage, Stages};
+
+/// A stage travels in packets of one of these sizes; 1,400 is what the headset's line carries.
+const PACKET_SIZES: [usize; 4] = [64, 256, 536, MOST_LOST];
+/// At most so many bytes are lost at once.
+const MOST_LOST: usize = 1_400;
+/// Bytes that mean something in a stage: put in place of another, they do more than any byte would.
+const MARKS: &[u8] = b"<>/{}=\"'.:-,()[]!?&|+* \n\\a1";
+
+#[derive(Clone, Copy, PartialEq, Eq, Debug)]
+pub enum Damage {
+    None,
+    PacketLost,
+    BytesLost,
+    BitsFlipped,
+    BytesChanged,
+    Truncated,
+    Spliced,
+    SplicedWithin,
+    Composed,
+}
+
+/// How often each is drawn: in so many of 20 items.
+const SHARES: [(Damage, usize); 9] = [
+    (Damage::None, 1),
+    (Damage::PacketLost, 3),
+    (Damage::BytesLost, 3),
+    (Damage::BitsFlipped, 3),
+    (Damage::BytesChanged, 3),
+    (Damage::Truncated, 2),
+    (Damage::Spliced, 2),
+    (Damage::SplicedWithin, 1),
+    (Damage::Composed, 2),
+];
+
+/// What a composed damage is made of.
+const SINGLE: [Damage; 7] = [
+    Damage::PacketLost,
+    Damage::BytesLost,
+    Damage::BitsFlipped,
+    Damage::BytesChanged,
+    Damage::Truncated,
+    Damage::Spliced,
+    Damage::SplicedWithin,
+];
+
+impl Damage {
+    pub fn word(self) -> &'static str {
+        match self {
+            Damage::None => "none",
+            Damage::PacketLost => "packet-lost",
+            Damage::BytesLost => "bytes-lost",
+            Damage::BitsFlipped => "bits-flipped",
+            Damage::BytesChanged => "bytes-changed",
+            Damage::Truncated => "truncated",
+            Damage::Spliced => "spliced",
+            Damage::SplicedWithin => "spliced-within",
+            Damage::Composed => "composed",
+        }
+    }
+
+    fn drawn(random: &mut Random) -> Damage {
+        let mut left = random.below(SHARES.iter().map(|(_, share)| share).sum());
+        for (damage, share) in SHARES {
+            if left < share {
+                return damage;
+            }
+            left -= share;
+        }
+        Damage::None
+    }
+}
+
+/// What an item was made of.
+#[derive(Clone, Copy, PartialEq, Eq, Debug)]
+pub struct Origin<'a> {
+    pub number: u64,
+    pub damage: Damage,
+    pub stage: &'a str,
+}
+
+/// The item of this number: the same for the same seed and stages, whoever asks.
+pub fn made(stages: &Stages, seed: u64, number: u64) -> (Item, Origin<'_>) {
+    let random = &mut Random::of_item(seed, number);
+    let stage = random.one_of(&stages.all);
+    let damage = Damage::drawn(random);
+    let reading = reading(stage, random);
+    let bytes = damaged(&stage.item.bytes, damage, stages, random);
+    let origin = Origin {
+        number,
+        damage,
+        stage: &stage.name,
+    };
+    (Item { reading, bytes }, origin)
+}
+
+/// Any bytes may be read either way: once in eight the other one is asked for.
+fn reading(stage: &Stage, random: &mut Random) -> Reading {
+    match (stage.item.reading, random.once_in(8)) {
+        (Reading::Stage, false) | (Reading::Run, true) => Reading::Stage,
+        (Reading::Run, false) | (Reading::Stage, true) => Reading::Run,
+    }
+}
+
+fn damaged(bytes: &[u8], damage: Damage, stages: &Stages, random: &mut Random) -> Vec<u8> {
+    match damage {
+        Damage::None => bytes.to_vec(),
+        Damage::PacketLost => packet_lost(bytes, random),
+        Damage::BytesLost => bytes_lost(bytes, random),
+        Damage::BitsFlipped => bits_flipped(bytes, random),
+        Damage::BytesChanged => bytes_changed(bytes, random),
+        Damage::Truncated => bytes[..random.within(0, bytes.len())].to_vec(),
+        Damage::Spliced => {
+            let other = &random.one_of(&stages.all).item.bytes;
+            spliced(bytes, other, random)
+        }
+        Damage::SplicedWithin => spliced(bytes, bytes, random),
+        Damage::Composed => composed(bytes, stages, random),
+    }
+}
+
+/// One of the packets of a stated size did not arrive.
+fn packet_lost(bytes: &[u8], random: &mut Random) -> Vec<u8> {
+    let size = *random.one_of(&PACKET_SIZES);
+    let packets = bytes.len().div_ceil(size).max(1);
+    let start = size * random.below(packets);
+    without(bytes, start, size)
+}
+
+/// From 1 to 1,400 bytes are missing, anywhere; a short loss is as likely as a long one.
+fn bytes_lost(bytes: &[u8], random: &mut Random) -> Vec<u8> {
+    let most = *random.one_of(&[2, 8, 40, 200, MOST_LOST]);
+    let length = random.within(1, most);
+    without(bytes, random.within(0, bytes.len()), length)
+}
+
+fn without(bytes: &[u8], start: usize, length: usize) -> Vec<u8> {
+    let end = bytes.len().min(start + length);
+    [&bytes[..start], &bytes[end..]].concat()
+}
+
+fn bits_flipped(bytes: &[u8], random: &mut Random) -> Vec<u8> {
+    changed(bytes, random, |byte, random| byte ^ (1 << random.below(8)))
+}
+
+/// Half of them become a mark, half any byte.
+fn bytes_changed(bytes: &[u8], random: &mut Random) -> Vec<u8> {
+    changed(bytes, random, |_, random| match random.once_in(2) {
+        true => *random.one_of(MARKS),
+        false => random.byte(),
+    })
+}
+
+/// From 1 to 4 bytes, most often 1, become another.
+fn changed(bytes: &[u8], random: &mut Random, other: fn(u8, &mut Random) -> u8) -> Vec<u8> {
+    let mut bytes = bytes.to_vec();
+    if bytes.is_empty() {
+        return bytes;
+    }
+    for _ in 0..*random.one_of(&[1, 1, 1, 2, 3, 4]) {
+        let at = random.below(bytes.len());
+        bytes[at] = other(bytes[at], random);
+    }
+    bytes
+}
+
+/// The front of one and the back of the other.
+fn spliced(front: &[u8], back: &[u8], random: &mut Random) -> Vec<u8> {
+    let end = random.within(0, front.len());
+    let start = random.within(0, back.len());
+    [&front[..end], &back[start..]].concat()
+}
+
+/// Two or three damages, one after the other.
+fn composed(bytes: &[u8], stages: &Stages, random: &mut Random) -> Vec<u8> {
+    let mut bytes = bytes.to_vec();
+    for _ in 0..random.within(2, 3) {
+        let damage = *random.one_of(&SINGLE);
+        bytes = damaged(&bytes, damage, stages, random);
+    }
+    bytes
+}
+
+#[cfg(test)]
+mod tests {
+    use super::*;
+
+    const SEED: u64 = 1;
+
+    fn stages() -> Stages {
+        let texts = ["<a>0123456789</a>", "<b c={d}/>", ""];
+        let stage = |text: &&str| Stage {
+            name: text.to_string(),
+            item: Item {
+                reading: Reading::Stage,
+                bytes: text.as_bytes().to_vec(),
+            },
+        };
+        Stages::of(texts.iter().map(stage).collect())
+    }
+
+    #[test]
+    fn an_item_is_always_the_same() {
+        let (one, other) = (stages(), stages());
+        for number in 0..200 {
+            assert_eq!(made(&one, SEED, number), made(&other, SEED, number));
+        }
+    }
+
+    #[test]
+    fn every_damage_and_both_readings_are_met() {
+        let stages = stages();
+        let all: Vec<(Item, Origin)> = (0..500).map(|number| made(&stages, SEED, number)).collect();
+        for (damage, _) in SHARES {
+            assert!(
+                all.iter().any(|(_, origin)| origin.damage == damage),
+                "{damage:?}"
+            );
+        }
+        for reading in [Reading::Stage, Reading::Run] {
+            assert!(all.iter().any(|(item, _)| item.reading == reading));
+        }
+    }
+
+    #[test]
+    fn a_lost_packet_stands_at_its_boundary() {
+        let bytes: Vec<u8> = (0..200).collect();
+        for number in 0..200 {
+            let rest = packet_lost(&bytes, &mut Random::of_item(SEED, number));
+            let lost = bytes.len() - rest.len();
+            let start = bytes
+                .iter()
+                .zip(&rest)
+                .take_while(|(one, other)| one == other)
+                .count();
+            let size = PACKET_SIZES
+                .into_iter()
+                .find(|size| *size >= lost)
+                .expect("no packet is larger");
+            assert_eq!(start % size, 0, "{lost} bytes lost at {start}");
+            assert!(lost == size || start + lost == bytes.len());
+        }
+    }
+
+    #[test]
+    fn other_losses_have_1_to_1400_bytes() {
+        let bytes = vec![b'x'; 3_000];
+        for number in 0..300 {
+            let rest = bytes_lost(&bytes, &mut Random::of_item(SEED, number));
+            assert!((0..=MOST_LOST).contains(&(bytes.len() - rest.len())));
+        }
+    }
+
+    #[test]
+    fn a_flip_changes_one_bit_of_a_few_bytes() {
+        let bytes = [0u8; 64];
+        for number in 0..100 {
+            let flipped = bits_flipped(&bytes, &mut Random::of_item(SEED, number));
+            let ones: u32 = flipped.iter().map(|byte| byte.count_ones()).sum();
+            assert_eq!(flipped.len(), bytes.len());
+            assert!((0..=4).contains(&ones));
+        }
+    }
+
+    #[test]
+    fn a_splice_is_a_front_and_a_back() {
+        for number in 0..100 {
+            let random = &mut Random::of_item(SEED, number);
+            let spliced = spliced(b"aaaa", b"bbbb", random);
+            let front = spliced.iter().take_while(|byte| **byte == b'a').count();
+            assert!(spliced[front..].iter().all(|byte| *byte == b'b'));
+        }
+    }
+}

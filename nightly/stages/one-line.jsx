@@ -1,0 +1,1 @@
+<Scene.Graph.Root id='r0' t={m[0][0]}><$mesh src="a.glb"/><_probe at={m[3]}/><x-y.z w='1'/><a:b c:d={e}>f{...g}h{i}j<k/>l</a:b><if else={true} while={null} this={this}/><switch case=<></>/></Scene.Graph.Root>
