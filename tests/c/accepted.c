@@ -1,0 +1,114 @@
+/* Inputs that are accepted, with their whole tables. */
+#include "check.h"
+
+#include <string.h>
+
+#define MOST 24
+#define NONE LORIKVAR_NO_PARENT
+
+struct accepted {
+    char reading;
+    const char *input;
+    size_t count;
+    uint32_t rows[MOST][LORIKVAR_ROW_WORDS];
+};
+
+/* kind, start, end, parent, after, extra; worked out by hand from document 01. */
+static const struct accepted cases[] = {
+    {'s', "<a/>", 3, {{1, 0, 4, NONE, 3, 0}, {18, 0, 4, 0, 3, 0}, {3, 1, 2, 1, 3, 0}}},
+    {'s',
+     "<v>hi</v>",
+     6,
+     {{1, 0, 9, NONE, 6, 1},
+      {18, 0, 3, 0, 3, 0},
+      {3, 1, 2, 1, 3, 0},
+      {14, 3, 5, 0, 4, 0},
+      {17, 5, 9, 0, 6, 0},
+      {3, 7, 8, 4, 6, 0}}},
+    {'s',
+     "<a-b.c/>",
+     5,
+     {{1, 0, 8, NONE, 5, 0}, {18, 0, 8, 0, 5, 0}, {7, 1, 6, 1, 5, 0}, {4, 1, 4, 2, 4, 1}, {16, 5, 6, 2, 5, 0}}},
+    {'s',
+     "<a>{}</a>",
+     7,
+     {{1, 0, 9, NONE, 7, 1},
+      {18, 0, 3, 0, 3, 0},
+      {3, 1, 2, 1, 3, 0},
+      {11, 3, 5, 0, 5, 0},
+      {12, 4, 4, 3, 5, 0},
+      {17, 5, 9, 0, 7, 0},
+      {3, 7, 8, 5, 7, 0}}},
+    {'s',
+     "<a b=\"\\\"/>",
+     6,
+     {{1, 0, 10, NONE, 6, 0},
+      {18, 0, 10, 0, 6, 0},
+      {3, 1, 2, 1, 3, 0},
+      {8, 3, 8, 1, 6, 0},
+      {16, 3, 4, 3, 5, 0},
+      {10, 5, 8, 3, 6, 0}}},
+    {'s',
+     "<foo.bar/>",
+     5,
+     {{1, 0, 10, NONE, 5, 0}, {18, 0, 10, 0, 5, 0}, {7, 1, 8, 1, 5, 0}, {4, 1, 4, 2, 4, 0}, {16, 5, 8, 2, 5, 0}}},
+    /* The kinds that stand in none of the above: 2, 5, 6, 9, 13, 15. */
+    {'s',
+     "<this x:y-z {...p}>{...q}{<></>}</this>",
+     18,
+     {{1, 0, 39, NONE, 18, 1},
+      {18, 0, 19, 0, 9, 0},
+      {5, 1, 5, 1, 3, 0},
+      {8, 6, 11, 1, 7, 0},
+      {6, 6, 11, 3, 7, 0},
+      {16, 6, 7, 4, 6, 0},
+      {16, 8, 11, 4, 7, 1},
+      {9, 12, 18, 1, 9, 0},
+      {15, 16, 17, 7, 9, 0},
+      {13, 19, 25, 0, 11, 0},
+      {15, 23, 24, 9, 11, 0},
+      {11, 25, 32, 0, 16, 0},
+      {15, 26, 31, 11, 16, 0},
+      {2, 26, 31, 12, 16, 0},
+      {18, 26, 28, 13, 15, 0},
+      {17, 28, 31, 13, 16, 0},
+      {17, 32, 39, 0, 18, 0},
+      {5, 34, 38, 16, 18, 0}}},
+    {'r', "", 0, {{0, 0, 0, 0, 0, 0}}},
+    {'r', "hi", 1, {{14, 0, 2, NONE, 1, 0}}},
+    {'r', "yo", 1, {{14, 0, 2, NONE, 1, 0}}},
+    {'r', "hiyo", 1, {{14, 0, 4, NONE, 1, 0}}},
+    {'r',
+     "<a/> x",
+     4,
+     {{1, 0, 4, NONE, 3, 0}, {18, 0, 4, 0, 3, 0}, {3, 1, 2, 1, 3, 0}, {14, 4, 6, NONE, 4, 0}}}
+};
+
+/* The check counts, and the read writes just these words, into a table of as many words and into one of more. */
+static void one(const struct accepted *c, size_t more)
+{
+    uint32_t table[MOST * LORIKVAR_ROW_WORDS];
+    size_t values[LORIKVAR_VALUES];
+    size_t length = strlen(c->input);
+    size_t words = c->count * LORIKVAR_ROW_WORDS;
+    about(c->input);
+    mark_values(values, LORIKVAR_VALUES);
+    CHECK(check_by(c->reading, bytes(c->input), length, values) == LORIKVAR_ACCEPTED);
+    CHECK(values_are(values, c->count, 0, 0, 0));
+    mark_values(values, LORIKVAR_VALUES);
+    mark_words(table, MOST * LORIKVAR_ROW_WORDS);
+    CHECK(read_by(c->reading, bytes(c->input), length, table, words + more, values) == LORIKVAR_ACCEPTED);
+    CHECK(values_are(values, c->count, 0, 0, 0));
+    CHECK(memcmp(table, c->rows, words * sizeof table[0]) == 0);
+    CHECK(marks_stand(table, words, MOST * LORIKVAR_ROW_WORDS));
+}
+
+void test_accepted(void)
+{
+    size_t k;
+    for (k = 0; k < sizeof cases / sizeof cases[0]; k++) {
+        one(&cases[k], 0);
+        one(&cases[k], 5);
+        one(&cases[k], 6);
+    }
+}

@@ -1,0 +1,110 @@
+/* Each refusal with its places; the same from the check and from the read, which leaves the table as it was. */
+#include "check.h"
+
+#include <stdlib.h>
+#include <string.h>
+
+#define WORDS 600
+
+struct refused {
+    char reading;
+    const char *input;
+    uint32_t number;
+    size_t places[LORIKVAR_VALUES];
+};
+
+static const struct refused cases[] = {
+    /* Document 01's starred inputs. */
+    {'s', "<v></w>", LORIKVAR_REFUSAL_NAMES_DIFFER, {1, 2, 5, 6}},
+    {'s', "<></a>", LORIKVAR_REFUSAL_FRAGMENT_CLOSED_BY_NAME, {0, 2, 4, 5}},
+    {'s', "<a></>", LORIKVAR_REFUSAL_ELEMENT_CLOSED_BY_FRAGMENT, {1, 2, 3, 6}},
+    {'s', "<f.b-/>", LORIKVAR_REFUSAL_DASH_AFTER_DOT, {3, 5, 0, 0}},
+    {'s', "<a b={}/>", LORIKVAR_REFUSAL_EMPTY_VALUE, {5, 7, 0, 0}},
+    {'s', "<a/><b/>", LORIKVAR_REFUSAL_ADJACENT, {4, 5, 0, 0}},
+    {'s', "<a/> x", LORIKVAR_REFUSAL_AFTER_STAGE, {5, 5, 0, 0}},
+    {'s', "<a>}</a>", LORIKVAR_REFUSAL_STRAY_IN_TEXT, {3, 3, 0, 0}},
+    /* Its others, and its easy slips. */
+    {'s', "", LORIKVAR_REFUSAL_END_OF_INPUT, {0, 0, 0, 0}},
+    {'s', "<a>x", LORIKVAR_REFUSAL_END_OF_INPUT, {4, 4, 0, 0}},
+    {'s', "<v></w", LORIKVAR_REFUSAL_END_OF_INPUT, {6, 6, 0, 0}},
+    {'s', "<x>{a, b}</x>", LORIKVAR_REFUSAL_COMMA_IN_BRACES, {5, 6, 0, 0}},
+    /* The numbers that are not among those. */
+    {'s', "<a>\xE2\x28</a>", LORIKVAR_REFUSAL_NOT_UTF8, {3, 3, 0, 0}},
+    {'r', "A\xE2\x28\xA1", LORIKVAR_REFUSAL_NOT_UTF8, {1, 1, 0, 0}},
+    {'s', "x", LORIKVAR_REFUSAL_UNEXPECTED, {0, 0, 0, 0}},
+    {'s', "<a>{if}</a>", LORIKVAR_REFUSAL_UNEXPECTED, {4, 4, 0, 0}},
+    {'s', "<a>{'b\\'}</a>", LORIKVAR_REFUSAL_UNEXPECTED, {6, 6, 0, 0}},
+    {'s', "<a b=\"x/>", LORIKVAR_REFUSAL_NEVER_CLOSED, {5, 5, 0, 0}},
+    {'s', "<a /*", LORIKVAR_REFUSAL_NEVER_CLOSED, {3, 3, 0, 0}},
+    /* Runs. */
+    {'r', "</>", LORIKVAR_REFUSAL_UNEXPECTED, {0, 0, 0, 0}},
+    {'r', "a< /b>", LORIKVAR_REFUSAL_UNEXPECTED, {1, 1, 0, 0}},
+    {'r', "hi>", LORIKVAR_REFUSAL_STRAY_IN_TEXT, {2, 2, 0, 0}},
+    {'r', "x<v></w>", LORIKVAR_REFUSAL_NAMES_DIFFER, {2, 3, 6, 7}},
+    {'r', "{a", LORIKVAR_REFUSAL_END_OF_INPUT, {2, 2, 0, 0}},
+    {'r', "{<a/><b/>}", LORIKVAR_REFUSAL_ADJACENT, {5, 6, 0, 0}}
+};
+
+static void refuses(char reading, const uint8_t *input, size_t length, uint32_t number, const size_t *p)
+{
+    uint32_t table[WORDS];
+    size_t values[LORIKVAR_VALUES];
+    mark_values(values, LORIKVAR_VALUES);
+    CHECK(check_by(reading, input, length, values) == number);
+    CHECK(values_are(values, p[0], p[1], p[2], p[3]));
+    mark_values(values, LORIKVAR_VALUES);
+    mark_words(table, WORDS);
+    CHECK(read_by(reading, input, length, table, WORDS, values) == number);
+    CHECK(values_are(values, p[0], p[1], p[2], p[3]));
+    CHECK(marks_stand(table, 0, WORDS));
+}
+
+/* 14: 64 levels are good, and the 65th is refused at its first byte. */
+static void depth(char reading)
+{
+    char *deep = nested("<a>", LORIKVAR_MOST_DEPTH, "", "</a>");
+    char *deeper = nested("<a>", LORIKVAR_MOST_DEPTH + 1, "", "</a>");
+    size_t values[LORIKVAR_VALUES];
+    size_t places[LORIKVAR_VALUES] = {3 * LORIKVAR_MOST_DEPTH, 3 * LORIKVAR_MOST_DEPTH, 0, 0};
+    about("depth");
+    CHECK(check_by(reading, bytes(deep), strlen(deep), values) == LORIKVAR_ACCEPTED);
+    CHECK(values_are(values, 5 * LORIKVAR_MOST_DEPTH, 0, 0, 0));
+    refuses(reading, bytes(deeper), strlen(deeper), LORIKVAR_REFUSAL_TOO_DEEP, places);
+    free(deep);
+    free(deeper);
+}
+
+/* 1 and 2: the longest input that is good, and one byte more. Length is tested first, then UTF-8, then the rest. */
+static void length(char reading)
+{
+    size_t most = LORIKVAR_MOST_BYTES;
+    char *input = malloc(most + 1);
+    size_t values[LORIKVAR_VALUES];
+    const size_t none[LORIKVAR_VALUES] = {0, 0, 0, 0};
+    const size_t last[LORIKVAR_VALUES] = {LORIKVAR_MOST_BYTES - 1, LORIKVAR_MOST_BYTES - 1, 0, 0};
+    about("length");
+    CHECK(input != NULL);
+    memset(input, ' ', most + 1);
+    memcpy(input, "<a/>", 4);
+    CHECK(check_by(reading, bytes(input), most, values) == LORIKVAR_ACCEPTED);
+    CHECK(values_are(values, reading == 's' ? 3 : 4, 0, 0, 0));
+    refuses(reading, bytes(input), most + 1, LORIKVAR_REFUSAL_TOO_LONG, none);
+    input[most - 1] = '\xFF';
+    refuses(reading, bytes(input), most + 1, LORIKVAR_REFUSAL_TOO_LONG, none);
+    input[0] = '}';
+    refuses(reading, bytes(input), most, LORIKVAR_REFUSAL_NOT_UTF8, last);
+    free(input);
+}
+
+void test_refused(void)
+{
+    size_t k;
+    for (k = 0; k < sizeof cases / sizeof cases[0]; k++) {
+        about(cases[k].input);
+        refuses(cases[k].reading, bytes(cases[k].input), strlen(cases[k].input), cases[k].number, cases[k].places);
+    }
+    depth('s');
+    depth('r');
+    length('s');
+    length('r');
+}

@@ -1,0 +1,108 @@
+/* The library with one fault, by the number WRONG: the tests must find each. The functions of the archive go by the
+ * names right_.. here. What is wrong stands beside each number. */
+#include <lorikvar.h>
+
+uint32_t right_check_stage(const uint8_t *input, size_t length, size_t values[LORIKVAR_VALUES]);
+uint32_t right_check_run(const uint8_t *input, size_t length, size_t values[LORIKVAR_VALUES]);
+uint32_t right_read_stage(const uint8_t *input, size_t length, uint32_t *table, size_t words,
+                          size_t values[LORIKVAR_VALUES]);
+uint32_t right_read_run(const uint8_t *input, size_t length, uint32_t *table, size_t words,
+                        size_t values[LORIKVAR_VALUES]);
+bool right_span_bytes(const uint8_t *input, size_t length, size_t start, size_t end, size_t part[LORIKVAR_PART]);
+bool right_record_bytes(const uint8_t *input, size_t length, const uint32_t *table, size_t words, size_t count,
+                        size_t number, size_t part[LORIKVAR_PART]);
+
+/* One byte of the input, looked at without need. */
+static void look(const uint8_t *input, size_t at)
+{
+    (void)*(const volatile uint8_t *)(input + at);
+}
+
+/* A fault in what a check or a read says. */
+static uint32_t said(uint32_t number, size_t *values)
+{
+    if (WRONG == 1 && number == 7) { /* the places of 7 turned */
+        size_t start = values[0], end = values[1];
+        values[0] = values[2], values[1] = values[3], values[2] = start, values[3] = end;
+    }
+    if (WRONG == 2 && number == 4) /* the end of input, one byte early */
+        values[0]--, values[1]--;
+    if (WRONG == 3 && number == 0) /* a count that is invented */
+        values[0]++;
+    if (WRONG == 4 && number == 12) /* 13 for 12 */
+        return 13;
+    if (WRONG == 5 && number == 16) /* the end of a byte's place not written */
+        values[1] = values[0];
+    return number;
+}
+
+uint32_t lorikvar_check_stage(const uint8_t *input, size_t length, size_t values[LORIKVAR_VALUES])
+{
+    if (WRONG == 6) /* a run's check for a stage's */
+        return right_check_run(input, length, values);
+    if (WRONG == 7) /* a byte behind the input is looked at */
+        look(input, length);
+    if (WRONG == 8 && length == LORIKVAR_MOST_BYTES) /* the longest input is too long */
+        return right_check_stage(input, length + 1, values);
+    return said(right_check_stage(input, length, values), values);
+}
+
+uint32_t lorikvar_check_run(const uint8_t *input, size_t length, size_t values[LORIKVAR_VALUES])
+{
+    if (WRONG == 9 && length == 0) /* the empty run is refused */
+        return right_check_stage(input, length, values);
+    return said(right_check_run(input, length, values), values);
+}
+
+/* A fault in what a read does with its table and its stack. */
+static uint32_t wrote(uint32_t number, uint32_t *table, size_t words, const size_t *values)
+{
+    if (WRONG == 10 && number != 0 && words > 0) /* a refusal writes a word */
+        table[0] = 1;
+    if (WRONG == 11 && number == 0 && words > 6 * values[0]) /* a word beyond the last record */
+        table[6 * values[0]] = 0;
+    if (WRONG == 12 && number == 0 && values[0] > 2) /* the last record's parent is wrong */
+        table[6 * values[0] - 3] = 0;
+    if (WRONG == 13 && number == 0 && values[0] > 0) /* a missing parent is 0 */
+        table[3] = 0;
+    return number;
+}
+
+uint32_t lorikvar_read_stage(const uint8_t *input, size_t length, uint32_t *table, size_t words,
+                             size_t values[LORIKVAR_VALUES])
+{
+    if (WRONG == 14) /* records rounded up */
+        words = (words + 5) / 6 * 6;
+    if (WRONG == 15) /* the table is looked at before its length is */
+        look((const uint8_t *)table, 0);
+    return wrote(said(right_read_stage(input, length, table, words, values), values), table, words, values);
+}
+
+uint32_t lorikvar_read_run(const uint8_t *input, size_t length, uint32_t *table, size_t words,
+                           size_t values[LORIKVAR_VALUES])
+{
+    volatile uint8_t more[WRONG == 16 ? 40000 : 1]; /* more stack than is said */
+    more[0] = 0;
+    return wrote(said(right_read_run(input, length, table, words, values), values), table, words, values) + more[0];
+}
+
+bool lorikvar_span_bytes(const uint8_t *input, size_t length, size_t start, size_t end, size_t part[LORIKVAR_PART])
+{
+    if (WRONG == 17) /* an end one past the input is in range */
+        return right_span_bytes(input, length + 1, start, end, part);
+    if (WRONG == 18 && start > end) /* nothing is said of a span that ends before it starts */
+        return false;
+    return right_span_bytes(input, length, start, end, part);
+}
+
+bool lorikvar_record_bytes(const uint8_t *input, size_t length, const uint32_t *table, size_t words, size_t count,
+                           size_t number, size_t part[LORIKVAR_PART])
+{
+    if (WRONG == 19) /* the count is passed over */
+        count = SIZE_MAX;
+    if (WRONG == 20) /* a record's span is not held against the input */
+        length = SIZE_MAX;
+    if (WRONG == 21) /* the record before */
+        number = number > 0 ? number - 1 : 0;
+    return right_record_bytes(input, length, table, words, count, number, part);
+}
