@@ -19,7 +19,7 @@ use Rattle.lex.specs.declared.Ans.the-variants.{Got, No}
 use Rattle.lex.proofs.Bare.{bare, direct-got}
 use Rattle.lex.proofs.Laws.{leaf-stop, leaf-done}
 use Rattle.word.specs.Table.{cells, good}
-use Rattle.word.proofs.Words.{among-more, among-found, among-end, good-lengths, refused-start, refused-long}
+use Rattle.word.proofs.Words.{among-more, among-found, among-end, good-lengths, refused-start, refused-long, refused-brief}
 
 -- ---- the search of the table
 
@@ -96,6 +96,7 @@ module _
 
 pub ruleset refused-steps = (
   refused-long,
+  refused-brief,
   table-begins,
   table-ends,
   table-finds,

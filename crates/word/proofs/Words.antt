@@ -73,7 +73,13 @@ free w f g = go (among spared w) (among reserved w) (among strict w) f g
     go false false true f g = absurd (g refl refl)
     go false false false f g = refl
 
--- ---- no refused word is longer than 10 bytes
+-- ---- a refused word has 2 to 10 bytes
+
+-- What all of them have and these bytes have not: they are none.
+refused-never : (P : List ℕ → Bool) (w : List ℕ) → each P reserved ≡ true → each P strict ≡ true → (P w ≡ true → ⊥)
+    → false ≡ refusedWord w
+refused-never P w r t n =
+    sym (free w (λ e d. n (each-at P reserved w r e)) (λ e d. n (each-at P strict w t e)))
 
 short : List ℕ → Bool
 short w = leb (length w) 10
@@ -86,18 +92,28 @@ strict-short : each short strict ≡ true
 unfolding each short strict words cut onFirst
 strict-short = refl
 
--- So more bytes are none.
+-- So more bytes are none,
 pub refused-long : (s : List ℕ) (a n : ℕ) → 10 < n → false ≡ refusedWord (bytesFrom s a n)
 unfolding short
-refused-long s a n h =
-    let w = bytesFrom s a n in
-    sym
-    (free w
-    (λ e d. no-word (each-at short reserved w reserved-short e))
-    (λ e d. no-word (each-at short strict w strict-short e)))
-  where
-    no-word : leb (length (bytesFrom s a n)) 10 ≡ true → ⊥
-    no-word e = let k = leb-true (length (bytesFrom s a n)) 10 e in omega (arith, length-part s a n)
+refused-long s a n h = refused-never short (bytesFrom s a n) reserved-short strict-short
+    (λ e. let k = leb-true (length (bytesFrom s a n)) 10 e in absurd (omega (arith, length-part s a n)))
+
+wide : List ℕ → Bool
+wide w = leb 2 (length w)
+
+reserved-wide : each wide reserved ≡ true
+unfolding each wide reserved words cut onFirst
+reserved-wide = refl
+
+strict-wide : each wide strict ≡ true
+unfolding each wide strict words cut onFirst
+strict-wide = refl
+
+-- and so is one byte.
+pub refused-brief : (s : List ℕ) (a n : ℕ) → n < 2 → false ≡ refusedWord (bytesFrom s a n)
+unfolding wide
+refused-brief s a n h = refused-never wide (bytesFrom s a n) reserved-wide strict-wide
+    (λ e. let k = leb-true 2 (length (bytesFrom s a n)) e in absurd (omega (arith, length-part s a n)))
 
 -- ---- a good table
 

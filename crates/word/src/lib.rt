@@ -306,6 +306,9 @@ pub fn is_refused_word(s: &[u8], a: usize, b: usize) -> bool
     ensures { λ r. ⌜ r ≡ refusedWord (bytesFrom (now (s .entry)) a (b - a)) ⌝ }
 {
     let n = b - a;
+    if n < 2 {
+        return false;
+    }
     if 10 < n {
         return false;
     }

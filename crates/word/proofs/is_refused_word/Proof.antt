@@ -15,6 +15,9 @@ sub-n c = search asked
 returns : tie.Need-returns
 returns c = search refused-steps
 
+returns-2 : tie.Need-returns-2
+returns-2 c = search refused-steps
+
 slice-aggregate-is-in-table : tie.Need-slice-aggregate-is-in-table
 slice-aggregate-is-in-table c = search asked
 
@@ -29,8 +32,8 @@ unfolding good sound complete wordsOf covered each upTo cells bytesFrom same
     cut onFirst words among reserved spared strict refusedWord
 is-in-table-requires c κs = (refl, omega arith, omega arith)
 
-returns-2 : tie.Need-returns-2
-returns-2 c = search refused-steps
+returns-3 : tie.Need-returns-3
+returns-3 c = search refused-steps
 
 pub is-refused-word-spec : {M : Type 1} → statement M
 is-refused-word-spec =
@@ -38,8 +41,9 @@ is-refused-word-spec =
     (tie.spec
     sub-n
     returns
+    returns-2
     slice-aggregate-is-in-table
     slice-aggregate-is-in-table-2
     slice-aggregate-is-in-table-3
     is-in-table-requires
-    returns-2)
+    returns-3)
