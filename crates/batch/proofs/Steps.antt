@@ -18,7 +18,8 @@ use Rattle.stage.specs.declared.Reply.the-variants.{Accepted, Refused}
 use Rattle.stage.specs.Call.{Numbered, Reads}
 use Rattle.stage.specs.Demand2.{WritesWhatIsRead}
 use Rattle.stage.proofs.Demand2.{stage-writes, run-writes, reads-fit}
-use Rattle.print.specs.Text.{Prints, Small, most}
+use Rattle.put.specs.Text.{Prints}
+use Rattle.print.specs.Answer.{Small, most}
 use Rattle.batch.specs.Item.{reading}
 
 -- ---- the read of an item

@@ -6,7 +6,7 @@ ghost use Prim.Native.Nat.{_≤_, _<_, _^_};
 ghost use lib.ListN.{length};
 ghost use mathlib.Core.Path.{_≡_};
 ghost use Rattle.stage.specs.Call.{Numbered, Reads};
-ghost use Rattle.print.specs.Text.{most, Small};
+ghost use Rattle.print.specs.Answer.{most, Small};
 ghost use Rattle.batch.specs.Item.{reading, lengthOf};
 use lex::refusal::TOO_LONG;
 use libc::STDIN_FILENO;
@@ -115,7 +115,7 @@ fn write_rows(out: &mut [u8], t: &[u32], m: usize)
     let mut k = 0;
     while k < m {
         let c = rows_at_once(m - k);
-        let e = print::put_rows(out, 0, t, c, k);
+        let e = put::put_rows(out, 0, t, c, k);
         write_front(out, e);
         k = k + c;
     }
@@ -133,7 +133,7 @@ fn write_short(out: &mut [u8], r: Reply, t: &[u32])
 fn write_long(out: &mut [u8], m: usize, t: &[u32])
     requires { ⌜ (150_552 ≤ length (now out)) × (m < 2 ^ 32) ⌝ }
 {
-    let e = print::put_ok(out, 0, m);
+    let e = put::put_ok(out, 0, m);
     write_front(out, e);
     write_rows(out, t, m);
 }

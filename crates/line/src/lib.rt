@@ -62,7 +62,7 @@ pub fn put_number(out: &mut [u8], at: usize, n: usize) -> usize
     if out.len() - at < DIGITS {
         return at;
     }
-    print::put_decimal(out, at, n)
+    put::put_decimal(out, at, n)
 }
 
 // The same byte n times.

@@ -1,4 +1,4 @@
--- Texts put one behind the other: a law for each writer.
+-- The text of an answer.
 pub mod Steps
 -- The program's whole output.
 pub mod WholeSteps

@@ -18,7 +18,8 @@ use Rattle.stage.specs.declared.Reply.{Reply}
 use Rattle.stage.specs.declared.Reply.the-variants.{Accepted, Refused}
 use Rattle.stage.specs.Call.{outcome, Reads}
 use Rattle.stage.proofs.Demand2.{stage-writes, reads-fit}
-use Rattle.print.specs.Text.{Prints, Whole, noLine, most, Small}
+use Rattle.put.specs.Text.{Prints, noLine}
+use Rattle.print.specs.Answer.{Whole, most, Small}
 use Rattle.print.proofs.Steps.{refused-is}
 
 -- A text that fits, put at the front, is the front.

@@ -1,2 +1,2 @@
--- What a writer of text promises, and the pieces of a line.
-pub mod Text
+-- The text of an answer.
+pub mod Answer

@@ -15,6 +15,7 @@ use lex::refusal::AFTER_STAGE;
 use lex::refusal::TABLE_TOO_SMALL;
 use lex::refusal::TOO_LONG;
 use lex::refusal::UNEXPECTED;
+use table::MISSING;
 use table::ROW_WORDS;
 use table::Slot;
 
@@ -23,9 +24,6 @@ pub const MOST_BYTES: usize = 1_048_576;
 
 // The most levels of depth.
 const DEPTH: usize = 64;
-
-// The parent of a record that has none.
-pub const MISSING: usize = 4_294_967_295;
 
 // What a call answers.
 pub enum Reply {

@@ -11,6 +11,9 @@ ghost use Rattle.table.specs.Contract.{Start, Words, Put, Stored, Answer
 // The words of a row.
 pub const ROW_WORDS: usize = 6;
 
+// The parent of a record that has none.
+pub const MISSING: usize = 4_294_967_295;
+
 // Places in a row: kind, start and end; then parent, `after` and extra.
 const KIND: usize = 0;
 

@@ -1,0 +1,2 @@
+-- Texts put one behind the other: a law for each writer.
+pub mod Steps
