@@ -41,19 +41,6 @@ pub fn put(out: &mut [u8], at: usize, b: u8) -> usize
     at
 }
 
-pub fn put_text(out: &mut [u8], at: usize, text: &[u8]) -> usize
-    requires { ⌜ at ≤ length (now out) ⌝ }
-    ensures { λ r. ⌜ r ≤ length (now (out .exit)) ⌝ }
-{
-    let mut p = at;
-    let mut i = 0;
-    while i < text.len() {
-        p = put(out, p, text[i]);
-        i = i + 1;
-    }
-    p
-}
-
 // A number, where it fits whole.
 pub fn put_number(out: &mut [u8], at: usize, n: usize) -> usize
     requires { ⌜ at ≤ length (now out) ⌝ }
@@ -93,9 +80,31 @@ pub fn write_line(out: &mut [u8], at: usize)
     write_front(out, e);
 }
 
-// ---- the source
+// ---- the source, byte by byte
 
-// A byte of the source as it is shown: a byte that is no character, or none that can be seen, is `?`.
+// How a byte of the source is put: as it is, in a line of the source or within words; or what stands under it, in front
+// of a mark or marked. Behind a byte that is not UTF-8 a line of the source may have bytes that are no characters.
+enum Way {
+    AsIs,
+    InLine,
+    InBrokenLine,
+    InWords,
+    Under,
+    Marked,
+}
+
+// A byte as it is; the end of the source is none.
+fn put_plain(out: &mut [u8], at: usize, b: u32) -> usize
+    requires { ⌜ at ≤ length (now out) ⌝ }
+    ensures { λ r. ⌜ r ≤ length (now (out .exit)) ⌝ }
+{
+    if b < ENDED {
+        return put(out, at, b as u8);
+    }
+    at
+}
+
+// A byte as it is shown: one that is no character, or none that can be seen, is `?`.
 fn put_shown(out: &mut [u8], at: usize, b: u32, whole: bool) -> usize
     requires { ⌜ at ≤ length (now out) ⌝ }
     ensures { λ r. ⌜ r ≤ length (now (out .exit)) ⌝ }
@@ -109,24 +118,16 @@ fn put_shown(out: &mut [u8], at: usize, b: u32, whole: bool) -> usize
     if !whole && ASCII <= b {
         return put(out, at, b'?');
     }
-    if b < ENDED {
-        return put(out, at, b as u8);
-    }
-    at
+    put_plain(out, at, b)
 }
 
-// The source from a place to another. From `good` on its bytes may be no characters.
-pub fn put_source(out: &mut [u8], at: usize, s: &[u8], from: usize, to: usize, good: usize) -> usize
+// A letter behind a backslash.
+fn put_escape(out: &mut [u8], at: usize, letter: u8) -> usize
     requires { ⌜ at ≤ length (now out) ⌝ }
     ensures { λ r. ⌜ r ≤ length (now (out .exit)) ⌝ }
 {
-    let mut p = at;
-    let mut i = from;
-    while i < to {
-        p = put_shown(out, p, lex::byte(s, i), i < good);
-        i = i + 1;
-    }
-    p
+    let p = put(out, at, b'\\');
+    put(out, p, letter)
 }
 
 // A byte as it is shown within words: the ends of lines and tabs by their names.
@@ -134,33 +135,13 @@ fn put_named(out: &mut [u8], at: usize, b: u32) -> usize
     requires { ⌜ at ≤ length (now out) ⌝ }
     ensures { λ r. ⌜ r ≤ length (now (out .exit)) ⌝ }
 {
-    if b == LF {
-        return put_text(out, at, b"\\n");
+    match b {
+        LF => put_escape(out, at, b'n'),
+        CR => put_escape(out, at, b'r'),
+        TAB => put_escape(out, at, b't'),
+        _ => put_shown(out, at, b, true),
     }
-    if b == CR {
-        return put_text(out, at, b"\\r");
-    }
-    if b == TAB {
-        return put_text(out, at, b"\\t");
-    }
-    put_shown(out, at, b, true)
 }
-
-// The source from a place to another, within words.
-pub fn put_sample(out: &mut [u8], at: usize, s: &[u8], from: usize, to: usize) -> usize
-    requires { ⌜ at ≤ length (now out) ⌝ }
-    ensures { λ r. ⌜ r ≤ length (now (out .exit)) ⌝ }
-{
-    let mut p = at;
-    let mut i = from;
-    while i < to {
-        p = put_named(out, p, lex::byte(s, i));
-        i = i + 1;
-    }
-    p
-}
-
-// ---- the marks under the source
 
 // The columns of a character on a screen: Chinese, Japanese, Korean and pictures have two.
 fn columns(b: u32) -> usize
@@ -189,32 +170,70 @@ fn put_under(out: &mut [u8], at: usize, b: u32) -> usize
     put_many(out, at, b' ', columns(b))
 }
 
-// What stands under the source in front of a mark.
-pub fn put_blanks(out: &mut [u8], at: usize, s: &[u8], from: usize, to: usize) -> usize
+fn put_by(out: &mut [u8], at: usize, b: u32, way: Way) -> usize
+    requires { ⌜ at ≤ length (now out) ⌝ }
+    ensures { λ r. ⌜ r ≤ length (now (out .exit)) ⌝ }
+{
+    match way {
+        Way::AsIs => put_plain(out, at, b),
+        Way::InLine => put_shown(out, at, b, true),
+        Way::InBrokenLine => put_shown(out, at, b, false),
+        Way::InWords => put_named(out, at, b),
+        Way::Under => put_under(out, at, b),
+        Way::Marked => put_many(out, at, b'^', columns(b)),
+    }
+}
+
+// The bytes from a place to another.
+fn put_each(out: &mut [u8], at: usize, s: &[u8], from: usize, to: usize, way: Way) -> usize
     requires { ⌜ at ≤ length (now out) ⌝ }
     ensures { λ r. ⌜ r ≤ length (now (out .exit)) ⌝ }
 {
     let mut p = at;
     let mut i = from;
     while i < to {
-        p = put_under(out, p, lex::byte(s, i));
+        p = put_by(out, p, lex::byte(s, i), way);
         i = i + 1;
     }
     p
 }
 
-// A mark for each column of the source from a place to another.
-fn put_marks(out: &mut [u8], at: usize, s: &[u8], from: usize, to: usize) -> usize
+pub fn put_text(out: &mut [u8], at: usize, text: &[u8]) -> usize
     requires { ⌜ at ≤ length (now out) ⌝ }
     ensures { λ r. ⌜ r ≤ length (now (out .exit)) ⌝ }
 {
-    let mut p = at;
-    let mut i = from;
-    while i < to {
-        p = put_many(out, p, b'^', columns(lex::byte(s, i)));
-        i = i + 1;
+    put_each(out, at, text, 0, text.len(), Way::AsIs)
+}
+
+// The source from a place to another. From `good` on its bytes may be no characters.
+pub fn put_source(out: &mut [u8], at: usize, s: &[u8], from: usize, to: usize, good: usize) -> usize
+    requires { ⌜ at ≤ length (now out) ⌝ }
+    ensures { λ r. ⌜ r ≤ length (now (out .exit)) ⌝ }
+{
+    if to <= good {
+        return put_each(out, at, s, from, to, Way::InLine);
     }
-    p
+    if good <= from {
+        return put_each(out, at, s, from, to, Way::InBrokenLine);
+    }
+    let p = put_each(out, at, s, from, good, Way::InLine);
+    put_each(out, p, s, good, to, Way::InBrokenLine)
+}
+
+// The source from a place to another, within words.
+pub fn put_sample(out: &mut [u8], at: usize, s: &[u8], from: usize, to: usize) -> usize
+    requires { ⌜ at ≤ length (now out) ⌝ }
+    ensures { λ r. ⌜ r ≤ length (now (out .exit)) ⌝ }
+{
+    put_each(out, at, s, from, to, Way::InWords)
+}
+
+// What stands under the source in front of a mark.
+pub fn put_blanks(out: &mut [u8], at: usize, s: &[u8], from: usize, to: usize) -> usize
+    requires { ⌜ at ≤ length (now out) ⌝ }
+    ensures { λ r. ⌜ r ≤ length (now (out .exit)) ⌝ }
+{
+    put_each(out, at, s, from, to, Way::Under)
 }
 
 // The marks of a place, at least one.
@@ -225,7 +244,7 @@ pub fn put_place(out: &mut [u8], at: usize, s: &[u8], from: usize, to: usize) ->
     if to <= from {
         return put(out, at, b'^');
     }
-    put_marks(out, at, s, from, to)
+    put_each(out, at, s, from, to, Way::Marked)
 }
 
 // ---- the window
