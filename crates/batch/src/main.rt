@@ -200,23 +200,9 @@ fn answer_all(item: &mut [u8], t: &mut [u32], out: &mut [u8])
     }
 }
 
-// Room for an item.
-fn item_room() -> [u8; 1_048_576]
-    ensures { λ r. ⌜ 1_048_576 ≡ length r ⌝ }
-{
-    [0; 1_048_576]
-}
-
-// Room for 131,072 records.
-fn table_room() -> [u32; 786_432]
-    ensures { λ r. ⌜ 786_432 ≡ length r ⌝ }
-{
-    [0; 786_432]
-}
-
 fn main() {
-    let mut item = item_room();
-    let mut t = table_room();
+    let mut item = room::input_room();
+    let mut t = room::table_room();
     let mut out = [0u8; 150_552];
     answer_all(&mut item, &mut t, &mut out);
 }

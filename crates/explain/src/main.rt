@@ -4,21 +4,7 @@ ghost use mathlib.Core.Path.{_≡_};
 ghost use lib.ListN.{length};
 use libc::STDIN_FILENO;
 
-// Room for an input of one byte more than is allowed, so that a longer one is told.
-fn input_room() -> [u8; 1_048_577]
-    ensures { λ r. ⌜ 1_048_577 ≡ length r ⌝ }
-{
-    [0; 1_048_577]
-}
-
-// Room for 131,072 records.
-fn table_room() -> [u32; 786_432]
-    ensures { λ r. ⌜ 786_432 ≡ length r ⌝ }
-{
-    [0; 786_432]
-}
-
-// Room for the depth of each.
+// Room for the depth of each record.
 fn depth_room() -> [u32; 131_072]
     ensures { λ r. ⌜ 131_072 ≡ length r ⌝ }
 {
@@ -26,8 +12,8 @@ fn depth_room() -> [u32; 131_072]
 }
 
 fn main() {
-    let mut input = input_room();
-    let mut t = table_room();
+    let mut input = room::input_room();
+    let mut t = room::table_room();
     let mut depths = depth_room();
     let n = io::read_full(STDIN_FILENO, &mut input);
     tell::tell(&input[..n], &mut t, &mut depths);

@@ -1,6 +1,4 @@
 // What `explain` tells of some stages: each refusal, places on several lines, tabs, wide characters, long lines, trees.
-ghost use mathlib.Core.Path.{_≡_};
-ghost use lib.ListN.{length};
 use libc::STDOUT_FILENO;
 
 fn show(s: &[u8]) {
@@ -48,15 +46,8 @@ fn long_lines() {
     );
 }
 
-// One byte more than an input may have.
-fn too_long() -> [u8; 1_048_577]
-    ensures { λ r. ⌜ 1_048_577 ≡ length r ⌝ }
-{
-    [0; 1_048_577]
-}
-
 fn limits() {
-    let input = too_long();
+    let input = room::input_room();
     show(&input);
     show(
         b"<a><a/><a/><a/><a/><a/><a/><a/><a/><a/><a/><a/><a/><a/><a/><a/><a/><a/><a/><a/><a/><a/><a/><a/><a/><a/><a/><a/><a/><a/><a/><a/><a/><a/><a/><a/><a/><a/><a/><a/><a/><a/><a/><a/></a>",
