@@ -203,6 +203,16 @@ leaf-behind w g at k u {s = s} {t} {p} {j} h l e i =
 pub tested : (f : ℕ → Bool) {r b : ℕ} {x v : Bool} → r ≡ b → x ≡ f r → x ≡ v → f b ≡ v
 tested f e g h = sym (ap f e) ∙ sym g ∙ h
 
+-- A test for k or for more.
+module _ (b k : ℕ) where
+  -- The byte is k.
+  pub is-first : (y : Bool) → b ≡ k → eqb b k ≡ pick (eqb b k) true y
+  is-first y h = rw (eq-eqb b k h)
+
+  -- It is not: the rest decides.
+  pub is-second : {y u : Bool} → (b ≡ k → ⊥) → u ≡ y → u ≡ pick (eqb b k) true y
+  is-second h j = j ∙ sym (rw (ne-eqb b k h))
+
 module _ (s : List ℕ) (F e at : ℕ) where
   -- Within the input a step reads the byte there.
   pub step-is : at < length s → parse s F step e at ≡ got true (byte (byteAt s at) nil) (at + 1)

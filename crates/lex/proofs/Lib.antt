@@ -2,6 +2,8 @@
 pub mod Laws
 -- A loop of code that reads `many t`, turn by turn.
 pub mod Turns
+-- Runs of bytes that pass a test, and the loop that reads one.
+pub mod Runs
 -- Rules that make no group: what they read are the input's bytes.
 pub mod Bare
 -- Lists of bytes compared, and the loop that does it.

@@ -161,13 +161,13 @@ fn prim(t: &mut [u32], s: &[u8], at: usize, d: usize, slot: Slot) -> Ans
 {
     let b = lex::byte(s, at);
     if word::opens_name(b) {
-        return word::primary_word(s, at);
+        return refused::primary_word(s, at);
     }
     if word::is_digit(b) {
-        return word::read_number(s, at);
+        return number::read_number(s, at);
     }
-    if word::is_quote(b) {
-        return word::read_string(s, at);
+    if text::is_quote(b) {
+        return text::read_string(s, at);
     }
     if b == OPEN_PAREN {
         return group(t, s, at, CLOSE_PAREN, d, slot);
@@ -517,7 +517,7 @@ fn value(t: &mut [u32], s: &[u8], at: usize, d: usize, slot: Slot) -> Ans
     ensures { λ r. ⌜ Made r (now (s .entry)) (valueRule (within d)) at 1 slot 0 (now (t .entry)) (now (t .exit)) ⌝ }
 {
     let b = lex::byte(s, at);
-    if word::is_quote(b) {
+    if text::is_quote(b) {
         return tag::quoted_value(t, s, at, slot);
     }
     if b == OPEN_BRACE {
@@ -758,7 +758,7 @@ fn child(t: &mut [u32], s: &[u8], at: usize, d: usize, slot: Slot) -> Ans
     ensures { λ r. ⌜ ChildMade r (now (s .entry)) (within d) at slot (now (t .entry)) (now (t .exit)) ⌝ }
 {
     let b = lex::byte(s, at);
-    if word::in_text(b) {
+    if text::in_text(b) {
         return token::text(t, s, at, slot);
     }
     if b == LESS {

@@ -13,6 +13,7 @@ use Rattle.lex.specs.declared.Ans.{Ans}
 use Rattle.lex.specs.declared.Ans.the-variants.{Got, No}
 use Rattle.lex.proofs.Bare.{goes-blanks}
 use Rattle.lex.proofs.Laws as Lex
+use Rattle.lex.proofs.Runs.{run}
 use Rattle.word.proofs.RunSteps as Word
 use Rattle.same.specs.Contract.{ReadsAt}
 
@@ -24,7 +25,7 @@ part-opened s at v = go (opensName (byteAt s at)) refl
     go : (b : Bool) → opensName (byteAt s at) ≡ b → b ≡ true
     go true e = refl
     go false e =
-        absurd (subst Lex.Fails (Word.front-no opensName (Word.run inName) s at e ∙ v .read) (Lex.need-fails s at))
+        absurd (subst Lex.Fails (Word.front-no opensName (run inName) s at e ∙ v .read) (Lex.need-fails s at))
 
 -- Blanks that were read can't be refused.
 pub blanks-again : {s : List ℕ} {at p n a b c d : ℕ} {r : Ans} → ReadsAt s blanks at → Leaf nothing r s blanks at 0

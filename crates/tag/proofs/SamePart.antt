@@ -18,7 +18,8 @@ use Rattle.rules.proofs.Turns.{many-more, many-last}
 use Rattle.jsx.specs.Byte.{need}
 use Rattle.jsx.specs.Name.{same, opensName, inName, part}
 use Rattle.lex.specs.Contract.{bytesFrom}
-use Rattle.word.proofs.RunSteps.{run, test-step, test-stop, front-got, opens-inside}
+use Rattle.lex.proofs.Runs.{run, test-step, test-stop}
+use Rattle.word.proofs.RunSteps.{front-got, opens-inside}
 
 -- The same bytes, one by one.
 pub same-byte : (s : List ℕ) (n a c i : ℕ) → same (bytesFrom s a n) (bytesFrom s c n) ≡ true → i < n

@@ -107,7 +107,7 @@ pub fn quoted_value(t: &mut [u32], s: &[u8], at: usize, slot: Slot) -> Ans
     requires { ⌜ Room 3 (now s) at slot × (quote (byteAt (now s) at) ≡ true) ⌝ }
     ensures { λ r. ⌜ Made r (now (s .entry)) quoted at 2 slot 0 (now (t .entry)) (now (t .exit)) ⌝ }
 {
-    let r = word::read_jsx_string_literal(s, at);
+    let r = text::read_jsx_string_literal(s, at);
     let Ans::Got(e, _) = r else {
         return r;
     };

@@ -250,7 +250,7 @@ pub fn text(t: &mut [u32], s: &[u8], at: usize, slot: Slot) -> Ans
     requires { ⌜ Room 3 (now s) at slot × (inText (byteAt (now s) at) ≡ true) ⌝ }
     ensures { λ r. ⌜ Made r (now (s .entry)) textRule at 1 slot 0 (now (t .entry)) (now (t .exit)) ⌝ }
 {
-    let e = word::read_jsx_text(s, at);
+    let e = text::read_jsx_text(s, at);
     table::put_node(
         t,
         slot,

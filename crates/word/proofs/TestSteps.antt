@@ -1,17 +1,12 @@
 -- Tests of a byte: what each answer of the code follows from.
-use mathlib.Core.Path.{_≡_, refl, sym, ap, _∙_}
+use mathlib.Core.Path.{_≡_, sym, _∙_}
 use mathlib.Core.Bool.{Bool, true, false}
-use mathlib.Core.List.{List, [], _∷_}
-use mathlib.Core.Logic.{inl, inr}
 use Prim.Native.Nat.{ℕ, _≤_, _<_}
-use Prim.Native.Char.{code}
-use lib.Dec.{leb, eqb}
-use borrow.Author.Tests.{eq-eqb, ne-eqb, le-leb, lt-leb}
-use types.Run.{OneOf}
-use Rattle.rules.specs.Rule.{Test}
+use lib.Dec.{leb}
+use borrow.Author.Tests.{le-leb, lt-leb}
 use Rattle.rules.specs.Parse.{pick}
-use Rattle.jsx.specs.Byte.{_‥_, quote}
-use Rattle.jsx.specs.Text.{inText}
+use Rattle.jsx.specs.Byte.{_‥_}
+use Rattle.lex.proofs.Laws.{is-first, is-second}
 
 -- ---- a range
 
@@ -35,76 +30,4 @@ module _ {x t : Bool} (i : t ≡ x) where
   pub or-second : {y u : Bool} → t ≡ false → u ≡ y → u ≡ pick x true y
   or-second h j = j ∙ sym (rw (sym i ∙ h))
 
-module _ (b k : ℕ) where
-  -- It is this byte.
-  pub is-first : (y : Bool) → b ≡ k → eqb b k ≡ pick (eqb b k) true y
-  is-first y h = rw (eq-eqb b k h)
-
-  -- It is not: the rest decides.
-  pub is-second : {y u : Bool} → (b ≡ k → ⊥) → u ≡ y → u ≡ pick (eqb b k) true y
-  is-second h j = j ∙ sym (rw (ne-eqb b k h))
-
--- ---- one of some bytes
-
-unfoldable any : List ℕ → Test
-any [] b = false
-any (k ∷ []) b = eqb b k
-any (k ∷ j ∷ ks) b = pick (eqb b k) true (any (j ∷ ks) b)
-
-or-true : (x : Bool) {y : Bool} → y ≡ true → pick x true y ≡ true
-or-true true e = refl
-or-true false e = e
-
-any-yes : (ks : List ℕ) (b : ℕ) → OneOf ks b → any ks b ≡ true
-unfolding any
-any-yes [] b h = absurd h
-any-yes (k ∷ []) b h = eq-eqb b k h
-any-yes (k ∷ j ∷ ks) b (inl h) = rw (eq-eqb b k h)
-any-yes (k ∷ j ∷ ks) b (inr h) = or-true (eqb b k) (any-yes (j ∷ ks) b h)
-
-any-no : (ks : List ℕ) (b : ℕ) → (OneOf ks b → ⊥) → any ks b ≡ false
-unfolding any
-any-no [] b h = refl
-any-no (k ∷ []) b h = ne-eqb b k h
-any-no (k ∷ j ∷ ks) b h = rw (ne-eqb b k (λ e. h (inl e))) (any-no (j ∷ ks) b (λ e. h (inr e)))
-
--- The quotes, and the bytes that end a text.
-abbrev quotes : List ℕ
-quotes = code "\"" ∷ code "'" ∷ []
-
-abbrev stops : List ℕ
-stops = code "<" ∷ code ">" ∷ code "{" ∷ code "}" ∷ 256 ∷ []
-
-module _ {b : ℕ} where
-  -- A quote.
-  pub quote-is : OneOf quotes b → true ≡ quote b
-  unfolding quote any
-  quote-is h = sym (any-yes quotes b h)
-
-  -- No quote.
-  pub quote-not : (OneOf quotes b → ⊥) → false ≡ quote b
-  unfolding quote any
-  quote-not h = sym (any-no quotes b h)
-
-  -- No byte of a text.
-  pub text-not : OneOf stops b → false ≡ inText b
-  unfolding inText any
-  text-not h = ap (λ (x : Bool). pick x false true) (sym (any-yes stops b h))
-
-  -- A byte of a text.
-  pub text-is : (OneOf stops b → ⊥) → true ≡ inText b
-  unfolding inText any
-  text-is h = ap (λ (x : Bool). pick x false true) (sym (any-no stops b h))
-
-pub ruleset test-steps = (
-  range-from,
-  range-under,
-  or-first,
-  or-second,
-  is-first,
-  is-second,
-  quote-is,
-  quote-not,
-  text-not,
-  text-is,
-)
+pub ruleset test-steps = (range-from, range-under, or-first, or-second, is-first, is-second)

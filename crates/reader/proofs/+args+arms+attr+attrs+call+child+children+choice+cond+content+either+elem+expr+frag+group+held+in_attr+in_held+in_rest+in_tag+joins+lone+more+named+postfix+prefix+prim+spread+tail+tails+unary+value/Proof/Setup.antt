@@ -113,8 +113,10 @@ use Rattle.lex.proofs.two_at.Reads as two-at-reads
 use Rattle.lex.proofs.unexpected.Reads as unexpected-reads
 use Rattle.name.proofs.parse_jsx_attribute_name.Reads as parse-jsx-attribute-name-reads
 use Rattle.name.proofs.parse_jsx_element_name.Reads as parse-jsx-element-name-reads
+use Rattle.number.proofs.read_number.Reads as read-number-reads
 use Rattle.reader.proofs.plain.Reads as plain-reads
 use Rattle.reader.proofs.refusal.Reads as refusal-reads
+use Rattle.refused.proofs.primary_word.Reads as primary-word-reads
 use Rattle.table.proofs.Slot.behind.Reads as behind-reads
 use Rattle.table.proofs.Slot.inside.Reads as inside-reads
 use Rattle.table.proofs.put_node.Reads as put-node-reads
@@ -124,6 +126,9 @@ use Rattle.tag.proofs.close_by.Reads as close-by-reads
 use Rattle.tag.proofs.no_sibling.Reads as no-sibling-reads
 use Rattle.tag.proofs.quoted_value.Reads as quoted-value-reads
 use Rattle.tag.proofs.tag_end.Reads as tag-end-reads
+use Rattle.text.proofs.in_text.Reads as in-text-reads
+use Rattle.text.proofs.is_quote.Reads as is-quote-reads
+use Rattle.text.proofs.read_string.Reads as read-string-reads
 use Rattle.token.proofs.assign.Reads as assign-reads
 use Rattle.token.proofs.attribute_at.Reads as attribute-at-reads
 use Rattle.token.proofs.colon.Reads as colon-reads
@@ -138,13 +143,8 @@ use Rattle.token.proofs.shut_fragment.Reads as shut-fragment-reads
 use Rattle.token.proofs.suffix.Reads as suffix-reads
 use Rattle.token.proofs.text.Reads as text-reads
 use Rattle.token.proofs.too_deep.Reads as too-deep-reads
-use Rattle.word.proofs.in_text.Reads as in-text-reads
 use Rattle.word.proofs.is_digit.Reads as is-digit-reads
-use Rattle.word.proofs.is_quote.Reads as is-quote-reads
 use Rattle.word.proofs.opens_name.Reads as opens-name-reads
-use Rattle.word.proofs.primary_word.Reads as primary-word-reads
-use Rattle.word.proofs.read_number.Reads as read-number-reads
-use Rattle.word.proofs.read_string.Reads as read-string-reads
 
 abbrev pub μ-args : Measures 2 args-kinds.ps ℕ
 μ-args κs a = 16 * (a .1 .1 .1 .0) + 9

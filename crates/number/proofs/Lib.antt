@@ -1,0 +1,6 @@
+-- Digits.
+pub mod DigitSteps
+-- Numbers.
+pub mod NumberSteps
+-- What calls, sums and loops ask: one set.
+pub mod Asked
