@@ -277,8 +277,8 @@ module _ {s : List ℕ} {at : ℕ} {q : Slot} (room : Room 3 s at q) {a : ℕ} (
   tag-far = l .made .of .far z m (ap plain h)
 
   -- The words of its opening tag are numbers,
-  pub tag-words : {q₃ : Slot} {x y w : ℕ} → q₃ ≡ slotInside q → x ≡ at → y ≡ z → w ≡ m
-      → Words q₃ Kind.openingTag x y 0 w
+  pub tag-words : {q₃ : Slot} {x y w : ℕ} → q₃ ≡ q → x ≡ at → y ≡ z → w ≡ m
+      → Words (slotInside q₃) Kind.openingTag x y 0 w
   tag-words f₁ f₂ f₃ f₄ =
       let far = tag-far in
       let fp = pa .far in
@@ -370,8 +370,8 @@ module _ {s : List ℕ} {at : ℕ} {q : Slot} (room : Room 3 s at q) {a : ℕ} (
     fragment-ends = Lex.before-end s a (code ">") b (lit< tt)
 
     -- The words of its opening tag are numbers.
-    pub fragment-words : {q₁ : Slot} {x y : ℕ} → q₁ ≡ slotInside q → x ≡ at → y ≡ a + 1
-        → Words q₁ Kind.openingTag x y 0 0
+    pub fragment-words : {q₁ : Slot} {x y : ℕ} → q₁ ≡ q → x ≡ at → y ≡ a + 1
+        → Words (slotInside q₁) Kind.openingTag x y 0 0
     fragment-words f₁ f₂ f₃ =
         let fp = pa .far in
         let few = room .few in

@@ -37,7 +37,7 @@ use Rattle.table.specs.declared.Slot.{Slot}
 use Rattle.table.specs.Slot.{slotInside, slotBehind}
 use Rattle.table.specs.Contract.{Start, Stored}
 use Rattle.table.specs.Reader.{Room, Made}
-use Rattle.table.proofs.Made.{made-as, made-lent, refused}
+use Rattle.table.proofs.Made.{made-as, made-no, made-lent, refused}
 use Rattle.table.proofs.Upto.{Upto, upto-begin, upto-as, upto-bare, upto-no, leaf-stops, leaf-goes, read-goes}
 use Rattle.table.proofs.Upto.{made-stops}
 use Rattle.table.proofs.Upto.{last-made, last-made-stops, upto-made}
@@ -49,7 +49,7 @@ use Rattle.reader.specs.Cut.{inContainer, inSpread, inAttribute}
 use Rattle.token.proofs.Rules as K
 use Rattle.reader.proofs.Rules as R
 use Rattle.reader.proofs.Levels as L
-use Rattle.reader.proofs.Steps.{Wraps, Holds, node-is, leaf-made-as}
+use Rattle.reader.proofs.Steps.{Wraps, Holds, node-is, leaf-made-as, made-began}
 use Rattle.reader.proofs.ExpressionSteps.{reader-first, reader-leaf, reader-leaf-refuses}
 
 -- ---- which rules are nodes
@@ -444,18 +444,19 @@ module _ (d : ℕ) (s : List ℕ) (at : ℕ) where
           go false g = trouble-got (sym g)
       by (trouble v w x y z) f = f
 
-module _ (d : ℕ) {s : List ℕ} {at : ℕ} {c : ℕ} {q : Slot} (room : Room c s at q) {r : Ans} {t t₁ : List ℕ}
+module _ (d : ℕ) {s : List ℕ} {at : ℕ} {q : Slot} {r : Ans} {t t₁ : List ℕ}
     (l : Made r s attributeName at 1 q 0 t t₁) where
-  in-attr-begun : Upto s (inAttribute (within d)) at q 0 t (attributeName ⨾ initializer (within d)) at 0 t
-  unfolding inAttribute
-  in-attr-begun = upto-begin (inAttribute (within d)) q 0 t (room .inside)
-
   -- The name refuses.
   pub in-attr-refuses : {t′ : List ℕ} {x a b g y : ℕ} → r ≡ No x a b g y
       → Made r s (inAttribute (within d)) at 1 q 0 t t′
-  in-attr-refuses h = refused (made-stops in-attr-begun l h) h
+  unfolding inAttribute
+  in-attr-refuses h = refused (seq-no s (suc (length s)) attributeName 0 at (made-no l h) _) h
 
   module _ {e k : ℕ} (h : r ≡ Got e k) {r₂ : Ans} (l₂ : Leaf goesOn r₂ s assigned e 0) where
+    in-attr-begun : Upto s (inAttribute (within d)) at q 0 t (attributeName ⨾ initializer (within d)) at 0 t
+    unfolding inAttribute
+    in-attr-begun = upto-begin (inAttribute (within d)) q 0 t (made-began l h)
+
     in-attr-named : Upto s (inAttribute (within d)) at q 0 t (initializer (within d)) e k t₁
     in-attr-named = reader-first in-attr-begun R.goes-attribute-name l h
 

@@ -31,7 +31,7 @@ use Rattle.table.specs.declared.Slot.{Slot}
 use Rattle.table.specs.Slot.{slotBehind}
 use Rattle.table.specs.Contract.{Start}
 use Rattle.table.specs.Reader.{Room, Made}
-use Rattle.table.proofs.Made.{made-as, made-lent, refused}
+use Rattle.table.proofs.Made.{made-as, made-no, made-lent, refused}
 use Rattle.table.proofs.Upto.{Upto, upto-begin, upto-as, upto-count, upto-when, upto-else, look-no, look-yes, look-else}
 use Rattle.table.proofs.Upto.{leaf-stops, leaf-goes, made-stops, made-goes, last-leaf, last-leaf-stops}
 use Rattle.table.proofs.Upto.{upto-bare, last-made, last-made-stops, upto-made, handed-up, same-slot}
@@ -42,7 +42,7 @@ use Rattle.reader.specs.Cut.{groupBy, arguments, tailOf, armsOf}
 use Rattle.token.proofs.Rules as K
 use Rattle.reader.proofs.Rules as R
 use Rattle.reader.proofs.Levels as L
-use Rattle.reader.proofs.Steps.{leaf-made-as}
+use Rattle.reader.proofs.Steps.{leaf-made-as, made-began}
 
 -- ---- a level
 
@@ -194,20 +194,21 @@ module _ (d : ℕ) {s : List ℕ} {at : ℕ} {q : Slot} {t : List ℕ} where
 pub ruleset call-steps = (call-deep, call-refuses, call-empty, call-is)
 
 -- Conditionals and `)`.
-module _ (d : ℕ) {s : List ℕ} {at : ℕ} {c : ℕ} {q : Slot} (room : Room c s at q) {r : Ans} {t t₁ : List ℕ}
+module _ (d : ℕ) {s : List ℕ} {at : ℕ} {q : Slot} {r : Ans} {t t₁ : List ℕ}
     (l : Made r s (conditional (within d)) at 1 q 0 t t₁) where
-  args-begun : Upto s (arguments (within d)) at q 0 t
-      (conditional (within d) ⨾ many (argumentTurn (within d)) ⨾ expectByte (code ")")) at 0 t
-  unfolding arguments expect
-  args-begun = upto-begin (arguments (within d)) q 0 t (room .inside)
-
   -- The first refuses.
   pub args-refuses : {t′ : List ℕ} {x a b g y : ℕ} → r ≡ No x a b g y → Made r s (arguments (within d)) at 1 q 0 t t′
-  args-refuses h = refused (made-stops args-begun l h) h
+  unfolding arguments
+  args-refuses h = refused (seq-no s (suc (length s)) (conditional (within d)) 0 at (made-no l h) _) h
 
   module _ {e k : ℕ} (h : r ≡ Got e k) {a : ℕ} (st : Start (length t₁) (6 * k) a) {q₂ : Slot} (eq : q₂ ≡ slotBehind k q)
       {r₂ : Ans} {u : List ℕ} (l₂ : Made r₂ s (many (argumentTurn (within d))) e 0 q₂ 0 (midOf a (length t₁ - a) t₁) u)
     where
+      args-begun : Upto s (arguments (within d)) at q 0 t
+          (conditional (within d) ⨾ many (argumentTurn (within d)) ⨾ expectByte (code ")")) at 0 t
+      unfolding arguments expect
+      args-begun = upto-begin (arguments (within d)) q 0 t (made-began l h)
+
       args-first : Upto s (arguments (within d)) at q 0 t
           (many (argumentTurn (within d)) ⨾ expectByte (code ")")) e k t₁
       args-first = reader-first args-begun (R.goes-cond d) l h
@@ -439,17 +440,18 @@ pub ruleset unary-steps = (unary-bang, unary-twice, unary-dash, unary-element, u
 abbrev chosen : ℕ → Rule
 chosen d = after blanks (is "?") (blanks ⨾ question (within d)) done
 
-module _ (d : ℕ) {s : List ℕ} {at : ℕ} {c : ℕ} {q : Slot} (room : Room c s at q) {r : Ans} {t t₁ : List ℕ}
+module _ (d : ℕ) {s : List ℕ} {at : ℕ} {q : Slot} {r : Ans} {t t₁ : List ℕ}
     (l : Made r s (either (within d)) at 1 q 0 t t₁) where
-  cond-begun : Upto s (conditional (within d)) at q 0 t (either (within d) ⨾ chosen d) at 0 t
-  unfolding conditional
-  cond-begun = upto-begin (conditional (within d)) q 0 t (room .inside)
-
   -- The first part refuses.
   pub cond-refuses : {t′ : List ℕ} {x a b g y : ℕ} → r ≡ No x a b g y → Made r s (conditional (within d)) at 1 q 0 t t′
-  cond-refuses h = refused (made-stops cond-begun l h) h
+  unfolding conditional
+  cond-refuses h = refused (seq-no s (suc (length s)) (either (within d)) 0 at (made-no l h) _) h
 
   module _ {e k : ℕ} (h : r ≡ Got e k) {r₂ : Ans} (l₂ : Leaf nothing r₂ s blanks e 0) where
+    cond-begun : Upto s (conditional (within d)) at q 0 t (either (within d) ⨾ chosen d) at 0 t
+    unfolding conditional
+    cond-begun = upto-begin (conditional (within d)) q 0 t (made-began l h)
+
     cond-first : Upto s (conditional (within d)) at q 0 t (chosen d) e k t₁
     cond-first = reader-first cond-begun (R.goes-either d) l h
 

@@ -122,6 +122,13 @@ module _ {c : ℕ} {s : List ℕ} {at : ℕ} {q : Slot} (room : Room c s at q) {
         let few = room .few in
         rw (f, z, w) (record { short = room .short; inside = far₂ .1; few = omega arith; held = room .held })
 
+-- What a reader has got began within the input.
+pub made-began : {r : Ans} {s : List ℕ} {g : Rule} {at k : ℕ} {q : Slot} {i : ℕ} {t t′ : List ℕ} {e m : ℕ}
+    → Made r s g at k q i t t′
+    → r ≡ Got e m
+    → at ≤ length s
+made-began l h = let far = l .of .far _ _ h in omega arith
+
 -- As many records as two readers have made are a number.
 pub both-fit : {c : ℕ} {s : List ℕ} {at : ℕ} {q : Slot} {r r₂ : Ans} {g g₂ : Rule} {p₁ p₂ k k₂ : ℕ} {q₁ q₂ : Slot}
     {i i₂ e m z n : ℕ} {t t′ t₂ t₃ : List ℕ} {x y : ℕ}

@@ -17,7 +17,7 @@ use Rattle.rules.specs.Record.{count}
 use Rattle.rules.proofs.Forests.{count-behind}
 use Rattle.rules.proofs.Run.{goes, wide-got}
 use Rattle.rules.proofs.Got.{behind-out}
-use Rattle.rules.proofs.Again.{wrap-got}
+use Rattle.rules.proofs.Again.{seq-no, wrap-got}
 use Rattle.jsx.specs.Kind as Kind
 use Rattle.jsx.specs.Byte.{is, need, expect}
 use Rattle.jsx.specs.Blank.{pass}
@@ -54,6 +54,7 @@ use Rattle.reader.specs.Cut.{inTag}
 use Rattle.reader.specs.Contract.{plain, TagMade, Content}
 use Rattle.token.proofs.Rules as K
 use Rattle.reader.proofs.Rules as R
+use Rattle.reader.proofs.Steps.{made-began}
 use Rattle.reader.proofs.ExpressionSteps.{reader-first}
 use Rattle.reader.proofs.Paired.{Opens, rows-behind, rows-front, paired-no, paired-shut}
 
@@ -82,28 +83,30 @@ tag-no e h f = record {
   goes = λ z m e k g i j. plain-no f h i;
 }
 
-module _ (d : ℕ) {s : List ℕ} {a : ℕ} {c : ℕ} {q : Slot} (room : Room c s a q) {r : Ans} {t t₁ : List ℕ}
-    (l : Made r s elementName a 1 q 0 t t₁) where
-  tag-begun : Upto s (inTag (within d)) a q 0 t (elementName ⨾ attributes (within d) ⨾ tagEnd) a 0 t
-  unfolding inTag
-  tag-begun = upto-begin (inTag (within d)) q 0 t (room .inside)
+module _ {s : List ℕ} {a : ℕ} {c : ℕ} {q : Slot} (room : Room c s a q) {r : Ans} {t t₁ : List ℕ}
+    (l : Made r s elementName a 1 q 0 t t₁) {e k : ℕ} (h : r ≡ A.Got e k) where
+  -- Room for the attributes: a name has no more records than bytes.
+  pub tag-room : c ≤ 3 → {u : List ℕ} {y : ℕ} {q₂ : Slot} → u ≡ s → y ≡ e → q₂ ≡ slotBehind k q → Room 2 u y q₂
+  tag-room i f z w =
+      let read = made-got l goes-element-name h in
+      let far = l .of .far _ _ h in
+      let all = made-count l goes-element-name h in
+      let few = room .few in
+      let thin = elementName-few s (suc (length s)) 0 a read in
+      let wide = wide-got s (suc (length s)) elementName 0 a read in
+      rw (f, z, w) (record { short = room .short; inside = far .1; few = omega arith; held = room .held })
 
+module _ (d : ℕ) {s : List ℕ} {a : ℕ} {q : Slot} {r : Ans} {t t₁ : List ℕ} (l : Made r s elementName a 1 q 0 t t₁) where
   -- The name refuses.
   pub tag-refuses : {x : Tagged} {t′ : List ℕ} {n i b g y : ℕ} → r ≡ A.No n i b g y → plain x ≡ r
       → TagMade x s (within d) a q t t′
-  tag-refuses h e = tag-no (made-stops tag-begun l h) h e
+  unfolding inTag
+  tag-refuses h e = tag-no (seq-no s (suc (length s)) elementName 0 a (made-no l h) _) h e
 
   module _ {e k : ℕ} (h : r ≡ A.Got e k) where
-    -- Room for the attributes: a name has no more records than bytes.
-    pub tag-room : c ≤ 3 → {u : List ℕ} {y : ℕ} {q₂ : Slot} → u ≡ s → y ≡ e → q₂ ≡ slotBehind k q → Room 2 u y q₂
-    tag-room i f z w =
-        let read = made-got l goes-element-name h in
-        let far = l .of .far _ _ h in
-        let all = made-count l goes-element-name h in
-        let few = room .few in
-        let thin = elementName-few s (suc (length s)) 0 a read in
-        let wide = wide-got s (suc (length s)) elementName 0 a read in
-        rw (f, z, w) (record { short = room .short; inside = far .1; few = omega arith; held = room .held })
+    tag-begun : Upto s (inTag (within d)) a q 0 t (elementName ⨾ attributes (within d) ⨾ tagEnd) a 0 t
+    unfolding inTag
+    tag-begun = upto-begin (inTag (within d)) q 0 t (made-began l h)
 
     module _ {i : ℕ} (st : Start (length t₁) (6 * k) i) {q₂ : Slot} (eq : q₂ ≡ slotBehind k q) {r₂ : Ans} {u : List ℕ}
         (l₂ : Made r₂ s (attributes (within d)) e 0 q₂ 0 (midOf i (length t₁ - i) t₁) u) where
@@ -292,23 +295,21 @@ module _ (s : List ℕ) (d at a : ℕ) (pa : Past a s pass at 1) where
 
 -- The rows of an opening tag: those inside it, then its own.
 tag-rows : (s : List ℕ) (d at a : ℕ) → Past a s pass at 1
-    → (q : Slot) (t : List ℕ) {t₁ t₂ : List ℕ} {q₁ q₂ : Slot} {z m : ℕ} {b : Bool}
-    → q₁ ≡ slotInside q
-    → q₂ ≡ slotInside q₁
+    → (q : Slot) (t : List ℕ) {t₁ t₂ : List ℕ} {q₂ : Slot} {z m : ℕ} {b : Bool}
+    → q₂ ≡ slotInside (slotInside q)
     → readAt s (inTag (within d)) a ≡ got b (rest s d a) z
     → m ≡ count (rest s d a)
     → t₁ ≡ sets t 12 (rowsFrom q₂ a (rest s d a))
-    → Stored 6 q₁ Kind.openingTag at z 0 m t₁ t₂
+    → Stored 6 (slotInside q) Kind.openingTag at z 0 m t₁ t₂
     → t₂ ≡ sets t 6 (rowsFrom (slotInside q) at (opening s d at a))
-tag-rows s d at a pa q t {t₁} {t₂} {q₁} {q₂} {z} {m} e₁ e₂ x all w st =
+tag-rows s d at a pa q t {z = z} {m} eQ x all w st =
     let C = front s at ⋈ rest s d a in
     let Q : Slot = slotInside q in
-    let eQ : q₂ ≡ slotInside Q = e₂ ∙ ap slotInside e₁ in
     let wide = wide-got s (suc (length s)) (pass ⨾ inTag (within d)) 0 at (inside-read s d at a pa _ x) in
     let none = count-flat (front s at) (flat-front s d at a pa) in
     let sum = count-behind (front s at) (rest s d a) in
     st .is
-    ∙ (λ i. sets (w i) 6 (nodeRow (e₁ i) Kind.openingTag at z 0 m))
+    ∙ (λ i. sets (w i) 6 (nodeRow Q Kind.openingTag at z 0 m))
     ∙ (λ i. sets (sets t 12 (rowsFrom (eQ i) a (rest s d a))) 6 (nodeRow Q Kind.openingTag at z 0 m))
     ∙ ap (λ (r : List ℕ). sets (sets t 12 r) 6 (nodeRow Q Kind.openingTag at z 0 m))
     (sym (rows-behind (front s at) (rest s d a) (slotInside Q) at (flat-front s d at a pa) (wide-front s d at a pa)))
@@ -323,8 +324,8 @@ module _ (d : ℕ) {s : List ℕ} {at a : ℕ} (pa : Past a s pass at 1) (q : Sl
   unfolding plain
   named-refuses h e = refused (named-no s d at a pa (made-no (l .made) (ap plain h))) (e ∙ ap plain h)
 
-  module _ {z m e k g : ℕ} (h : r ≡ Got z m e k g) {t₁ t₂ : List ℕ} (w : t₁ ≡ putMid i (length t - i) t u) {q₃ : Slot}
-      (eq₃ : q₃ ≡ slotInside q) (st₂ : Stored 6 q₃ Kind.openingTag at z 0 m t₁ t₂) where
+  module _ {z m e k g : ℕ} (h : r ≡ Got z m e k g) {t₁ t₂ : List ℕ} (w : t₁ ≡ putMid i (length t - i) t u)
+      (st₂ : Stored 6 (slotInside q) Kind.openingTag at z 0 m t₁ t₂) where
     named-got : plain r ≡ A.Got z m
     unfolding plain
     named-got = ap plain h
@@ -338,7 +339,7 @@ module _ (d : ℕ) {s : List ℕ} {at a : ℕ} (pa : Past a s pass at 1) (q : Sl
     named-rows : (b : Bool) → readAt s (inTag (within d)) a ≡ got b (rest s d a) z
         → t₂ ≡ sets t 6 (rowsFrom (slotInside q) at (opening s d at a))
     named-rows b x =
-        tag-rows s d at a pa q t eq₃ (eq₂ ∙ ap slotInside (eq ∙ sym eq₃)) x (named-count b x)
+        tag-rows s d at a pa q t (eq₂ ∙ ap slotInside eq) x (named-count b x)
         (made-lent t st (l .made) w .of .wrote _ _ named-got) st₂
 
     -- It closes itself.
@@ -430,9 +431,8 @@ module _ (s : List ℕ) (at a : ℕ) (pa : Past a s pass at 1) (y : byteAt s a �
   fragment-flat : Flat (front s at ⋈ byte (byteAt s a) nil)
   fragment-flat = flat-got s (suc (length s)) (pass ⨾ expect ">") 0 at bare-opening fragment-inside
 
-module _ (d : ℕ) {s : List ℕ} {at a : ℕ} (pa : Past a s pass at 1) (y : byteAt s a ≡ code ">") (q : Slot) {q₁ : Slot}
-    (eq : q₁ ≡ slotInside q) {p : ℕ} (ep : p ≡ a + 1) {t t₁ : List ℕ}
-    (st : Stored 6 q₁ Kind.openingTag at p 0 0 t t₁) where
+module _ (d : ℕ) {s : List ℕ} {at a : ℕ} (pa : Past a s pass at 1) (y : byteAt s a ≡ code ">") (q : Slot) {p : ℕ}
+    (ep : p ≡ a + 1) {t t₁ : List ℕ} (st : Stored 6 (slotInside q) Kind.openingTag at p 0 0 t t₁) where
   fragment-opens : Opens s d (within d) openFragment (λ o. node Kind.fragment 0) Kind.fragment 0 at (a + 1) 0
       (closing s at (a + 1 - at) noName) q t t₁
   unfolding openFragment inside
@@ -449,7 +449,7 @@ module _ (d : ℕ) {s : List ℕ} {at a : ℕ} (pa : Past a s pass at 1) (y : by
         under = C;
         tag = tag;
         wrote = st .is
-            ∙ (λ i. sets t 6 (nodeRow (eq i) Kind.openingTag at (ep i) 0 0))
+            ∙ (λ i. sets t 6 (nodeRow (slotInside q) Kind.openingTag at (ep i) 0 0))
             ∙ ap (sets t 6) (leaf-row C (slotInside q) at Kind.openingTag (a + 1) 0 wide none);
         all = sym none;
         few = omega arith;

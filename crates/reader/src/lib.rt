@@ -35,14 +35,12 @@ use lex::kind::ATTRIBUTE;
 use lex::kind::CONTAINER;
 use lex::kind::ELEMENT;
 use lex::kind::EXPRESSION;
-use lex::kind::OPENING_TAG;
 use lex::kind::SPREAD_ATTRIBUTE;
 use lex::kind::SPREAD_CHILD;
 use lex::refusal::EMPTY_VALUE;
 use lex::refusal::STRAY_IN_TEXT;
 use lex::refusal::TOO_DEEP;
 use lex::refusal::UNEXPECTED;
-use table::Node;
 use table::ROW_WORDS;
 use table::Slot;
 use tag::Opened;
@@ -409,17 +407,7 @@ fn expr(t: &mut [u32], s: &[u8], at: usize, d: usize, slot: Slot) -> Ans
     let Ans::Got(e, m) = r else {
         return r;
     };
-    table::put_node(
-        t,
-        slot,
-        Node {
-            kind: EXPRESSION,
-            start: at,
-            end: e,
-            extra: 0,
-            below: m,
-        },
-    );
+    token::put_plain(t, EXPRESSION, at, e, m, slot);
     Ans::Got(e, m + 1)
 }
 
@@ -451,17 +439,7 @@ fn held(t: &mut [u32], s: &[u8], at: usize, q: usize, d: usize, slot: Slot) -> A
     let Ans::Got(z, m) = r else {
         return r;
     };
-    table::put_node(
-        t,
-        slot,
-        Node {
-            kind: CONTAINER,
-            start: at,
-            end: z,
-            extra: 0,
-            below: m,
-        },
-    );
+    token::put_plain(t, CONTAINER, at, z, m, slot);
     Ans::Got(z, m + 1)
 }
 
@@ -495,17 +473,7 @@ fn spread(t: &mut [u32], s: &[u8], at: usize, q: usize, kind: usize, d: usize, s
     let Ans::Got(z, m) = r else {
         return r;
     };
-    table::put_node(
-        t,
-        slot,
-        Node {
-            kind: kind,
-            start: at,
-            end: z,
-            extra: 0,
-            below: m,
-        },
-    );
+    token::put_plain(t, kind, at, z, m, slot);
     Ans::Got(z, m + 1)
 }
 
@@ -583,17 +551,7 @@ fn attr(t: &mut [u32], s: &[u8], at: usize, d: usize, slot: Slot) -> Ans
     let Ans::Got(z, m) = r2 else {
         return r2;
     };
-    table::put_node(
-        t,
-        slot,
-        Node {
-            kind: ATTRIBUTE,
-            start: at,
-            end: z,
-            extra: 0,
-            below: m,
-        },
-    );
+    token::put_plain(t, ATTRIBUTE, at, z, m, slot);
     Ans::Got(z, m + 1)
 }
 
@@ -664,36 +622,14 @@ fn named(t: &mut [u32], s: &[u8], at: usize, a: usize, d: usize, slot: Slot) -> 
     requires { ⌜ Room 3 (now s) at slot × Past a (now s) pass at 1 ⌝ }
     ensures { λ r. ⌜ Made r (now (s .entry)) (namedIn d (within d)) at 1 slot 0 (now (t .entry)) (now (t .exit)) ⌝ }
 {
-    let inside = slot.inside();
     let i = table::start(t.len(), 2 * ROW_WORDS);
-    let r = in_tag(&mut t[i..], s, a, d, inside.inside());
+    let r = in_tag(&mut t[i..], s, a, d, slot.inside().inside());
     let Tagged::Got(z, m, e, k, goes) = r else {
         return plain(r);
     };
-    table::put_node_at(
-        t,
-        ROW_WORDS,
-        inside,
-        Node {
-            kind: OPENING_TAG,
-            start: at,
-            end: z,
-            extra: 0,
-            below: m,
-        },
-    );
+    token::put_opening(t, at, z, m, slot);
     if goes == 0 {
-        table::put_node(
-            t,
-            slot,
-            Node {
-                kind: ELEMENT,
-                start: at,
-                end: z,
-                extra: 0,
-                below: m + 1,
-            },
-        );
+        token::put_plain(t, ELEMENT, at, z, m + 1, slot);
         return Ans::Got(z, m + 2);
     }
     content(
@@ -717,21 +653,9 @@ fn frag(t: &mut [u32], s: &[u8], at: usize, a: usize, d: usize, slot: Slot) -> A
     requires { ⌜ Room 3 (now s) at slot × Past a (now s) pass at 1 × (byteAt (now s) a ≡ 62) ⌝ }
     ensures { λ r. ⌜ Made r (now (s .entry)) (fragmentIn d (within d)) at 1 slot 0 (now (t .entry)) (now (t .exit)) ⌝ }
 {
-    let inside = slot.inside();
-    table::put_node_at(
-        t,
-        ROW_WORDS,
-        inside,
-        Node {
-            kind: OPENING_TAG,
-            start: at,
-            end: a + 1,
-            extra: 0,
-            below: 0,
-        },
-    );
+    token::put_opening(t, at, a + 1, 0, slot);
     let i = table::start(t.len(), 2 * ROW_WORDS);
-    let r = children(&mut t[i..], s, a + 1, d, inside.behind(1));
+    let r = children(&mut t[i..], s, a + 1, d, slot.inside().behind(1));
     let Ans::Got(c, k) = r else {
         return r;
     };

@@ -5,6 +5,7 @@ ghost use mathlib.Core.Bool.{true};
 ghost use Prim.Native.Nat.{_+_, _-_, _<_, _≤_, _^_};
 ghost use lib.ListN.{length};
 ghost use Rattle.rules.specs.Parse.{byteAt};
+ghost use Rattle.rules.specs.Record.{rowWords};
 ghost use Rattle.jsx.specs.Blank.{pass};
 ghost use Rattle.jsx.specs.Text.{inText, text as textRule};
 ghost use Rattle.jsx.specs.Braces.{emptyBraces};
@@ -13,6 +14,7 @@ ghost use Rattle.jsx.specs.Depth.{elementTooDeep};
 ghost use Rattle.jsx.specs.Kind as Kind;
 ghost use Rattle.lex.specs.Contract.{Leaf, Past, nothing};
 ghost use Rattle.table.specs.Slot.{slotInside, slotBehind};
+ghost use Rattle.table.specs.Contract.{Words, Stored};
 ghost use Rattle.table.specs.Reader.{Room, Made};
 ghost use Rattle.tag.specs.Token.{goesOn};
 ghost use Rattle.tag.specs.Close.{Opening, closing, closingNamed};
@@ -39,6 +41,7 @@ use lex::kind::CONTAINER;
 use lex::kind::ELEMENT;
 use lex::kind::EMPTY_EXPRESSION;
 use lex::kind::FRAGMENT;
+use lex::kind::OPENING_TAG;
 use lex::kind::TEXT;
 use lex::refusal::COMMA_IN_BRACES;
 use lex::refusal::TOO_DEEP;
@@ -245,23 +248,50 @@ pub fn dot_word(s: &[u8], at: usize) -> Ans
     word::read_word(s, p)
 }
 
+// The row of a record of this kind from `at` to z, with m records below it and 0 for its extra word.
+pub fn put_plain(t: &mut [u32], kind: usize, at: usize, z: usize, m: usize, slot: Slot)
+    requires { ⌜ Words slot kind at z 0 m ⌝ }
+    ensures { λ _. ⌜ Stored 0 slot kind at z 0 m (now (t .entry)) (now (t .exit)) ⌝ }
+{
+    table::put_node(
+        t,
+        slot,
+        Node {
+            kind: kind,
+            start: at,
+            end: z,
+            extra: 0,
+            below: m,
+        },
+    );
+}
+
+// The row of an opening tag from `at` to z, with m records in it, behind that of the element or fragment in the slot.
+pub fn put_opening(t: &mut [u32], at: usize, z: usize, m: usize, slot: Slot)
+    requires { ⌜ Words (slotInside slot) Kind.openingTag at z 0 m ⌝ }
+    ensures { λ _. ⌜ Stored rowWords (slotInside slot) Kind.openingTag at z 0 m (now (t .entry)) (now (t .exit)) ⌝ }
+{
+    table::put_node_at(
+        t,
+        ROW_WORDS,
+        slot.inside(),
+        Node {
+            kind: OPENING_TAG,
+            start: at,
+            end: z,
+            extra: 0,
+            below: m,
+        },
+    );
+}
+
 // A text, whose first byte was seen, and its record.
 pub fn text(t: &mut [u32], s: &[u8], at: usize, slot: Slot) -> Ans
     requires { ⌜ Room 3 (now s) at slot × (inText (byteAt (now s) at) ≡ true) ⌝ }
     ensures { λ r. ⌜ Made r (now (s .entry)) textRule at 1 slot 0 (now (t .entry)) (now (t .exit)) ⌝ }
 {
     let e = text::read_jsx_text(s, at);
-    table::put_node(
-        t,
-        slot,
-        Node {
-            kind: TEXT,
-            start: at,
-            end: e,
-            extra: 0,
-            below: 0,
-        },
-    );
+    put_plain(t, TEXT, at, e, 0, slot);
     Ans::Got(e, 1)
 }
 
@@ -282,17 +312,7 @@ pub fn empty_braces(t: &mut [u32], s: &[u8], at: usize, q: usize, slot: Slot) ->
             below: 0,
         },
     );
-    table::put_node(
-        t,
-        slot,
-        Node {
-            kind: CONTAINER,
-            start: at,
-            end: q + 1,
-            extra: 0,
-            below: 1,
-        },
-    );
+    put_plain(t, CONTAINER, at, q + 1, 1, slot);
     Ans::Got(q + 1, 2)
 }
 
@@ -342,16 +362,6 @@ pub fn shut_fragment(
     let Ans::Got(z, k) = r else {
         return r;
     };
-    table::put_node(
-        t,
-        slot,
-        Node {
-            kind: FRAGMENT,
-            start: at,
-            end: z,
-            extra: 0,
-            below: v + k,
-        },
-    );
+    put_plain(t, FRAGMENT, at, z, v + k, slot);
     Ans::Got(z, v + k + 1)
 }

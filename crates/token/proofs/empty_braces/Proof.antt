@@ -5,20 +5,20 @@ use Rattle.token.proofs.BracesSteps.{empty-steps, empty-asked}
 inside-requires : tie.Need-inside-requires
 inside-requires c κs = search empty-asked
 
-add-t10 : tie.Need-add-t10
-add-t10 c = search empty-asked
+add-put-plain : tie.Need-add-put-plain
+add-put-plain c = search empty-asked
 
 put-node-at-requires : tie.Need-put-node-at-requires
 put-node-at-requires c κs = search empty-asked
 
-add-t10-2 : tie.Need-add-t10-2
-add-t10-2 c = search empty-asked
+add-put-plain-2 : tie.Need-add-put-plain-2
+add-put-plain-2 c = search empty-asked
 
-put-node-requires : tie.Need-put-node-requires
-put-node-requires c κs = search empty-asked
+put-plain-requires : tie.Need-put-plain-requires
+put-plain-requires c κs = search empty-asked
 
-add-t10-3 : tie.Need-add-t10-3
-add-t10-3 c = search empty-asked
+add-t10 : tie.Need-add-t10
+add-t10 c = search empty-asked
 
 same-length : tie.Need-same-length
 same-length c = search empty-asked
@@ -31,10 +31,10 @@ empty-braces-spec =
     tie.close
     (tie.spec
     inside-requires
-    add-t10
+    add-put-plain
     put-node-at-requires
-    add-t10-2
-    put-node-requires
-    add-t10-3
+    add-put-plain-2
+    put-plain-requires
+    add-t10
     same-length
     returns)

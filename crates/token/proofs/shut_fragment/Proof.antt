@@ -44,17 +44,17 @@ same-length c = search shut-asked
 returns : tie.Need-returns
 returns c = search shut-steps
 
-add-t13 : tie.Need-add-t13
-add-t13 c = search shut-asked
+add-put-plain : tie.Need-add-put-plain
+add-put-plain c = search shut-asked
 
-put-node-requires : tie.Need-put-node-requires
-put-node-requires c κs = search shut-asked
+put-plain-requires : tie.Need-put-plain-requires
+put-plain-requires c κs = search shut-asked
 
 add-t12 : tie.Need-add-t12
 add-t12 c = search shut-asked
 
-add-t14 : tie.Need-add-t14
-add-t14 c = search shut-asked
+add-t13 : tie.Need-add-t13
+add-t13 c = search shut-asked
 
 same-length-2 : tie.Need-same-length-2
 same-length-2 c = search shut-asked
@@ -80,9 +80,9 @@ shut-fragment-spec =
     enum-told
     same-length
     returns
-    add-t13
-    put-node-requires
+    add-put-plain
+    put-plain-requires
     add-t12
-    add-t14
+    add-t13
     same-length-2
     returns-2)

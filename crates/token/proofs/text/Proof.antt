@@ -5,8 +5,8 @@ use Rattle.token.proofs.BracesSteps.{text-steps}
 read-jsx-text-requires : tie.Need-read-jsx-text-requires
 read-jsx-text-requires c κs = search text-steps
 
-put-node-requires : tie.Need-put-node-requires
-put-node-requires c κs = search text-steps
+put-plain-requires : tie.Need-put-plain-requires
+put-plain-requires c κs = search text-steps
 
 same-length : tie.Need-same-length
 same-length c = search text-steps
@@ -15,4 +15,4 @@ returns : tie.Need-returns
 returns c = search text-steps
 
 pub text-spec : {M : Type 1} → statement M
-text-spec = tie.close (tie.spec read-jsx-text-requires put-node-requires same-length returns)
+text-spec = tie.close (tie.spec read-jsx-text-requires put-plain-requires same-length returns)

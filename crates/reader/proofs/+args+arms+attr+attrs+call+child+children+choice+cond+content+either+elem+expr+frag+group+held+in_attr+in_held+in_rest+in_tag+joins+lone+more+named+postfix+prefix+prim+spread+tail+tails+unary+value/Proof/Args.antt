@@ -82,8 +82,4 @@ pub same-length-4 : (t : ℕ) → args-lts.Need-same-length-4 (args-calls t) (ar
 same-length-4 t c = search asked
 
 pub returns-4 : (t : ℕ) → args-lts.Need-returns-4 (args-calls t) (args-at t) args.Post
-returns-4 t c =
-    let pre = c .before .before .before .before .before .before .before .before .before .before .before .before .before .before .before .before .before .before .before .before .before .before .pre in
-    let cond = c .before .before .before .before .before .before .before .before .before .before .before .before .before .before .before .before .before .before .cond in
-    let r = c .before .before .before .before .before .before .before .before .before .before .before .before .before .before .r in
-    search args-set
+returns-4 t c = search args-set

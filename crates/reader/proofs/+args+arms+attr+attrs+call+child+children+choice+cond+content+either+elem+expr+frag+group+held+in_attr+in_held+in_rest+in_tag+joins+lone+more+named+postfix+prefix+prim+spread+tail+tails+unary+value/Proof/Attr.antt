@@ -67,8 +67,8 @@ same-length-2 t c = search attr-asked
 pub returns-4 : (t : ℕ) → attr-lts.Need-returns-4 (attr-calls t) (attr-at t) attr.Post
 returns-4 t c = search attr-set
 
-pub put-node-requires : (t : ℕ) → attr-lts.Need-put-node-requires (attr-calls t) (attr-at t) attr.Post
-put-node-requires t c κs = search attr-asked
+pub put-plain-requires : (t : ℕ) → attr-lts.Need-put-plain-requires (attr-calls t) (attr-at t) attr.Post
+put-plain-requires t c κs = search attr-asked
 
 pub add-t18 : (t : ℕ) → attr-lts.Need-add-t18 (attr-calls t) (attr-at t) attr.Post
 add-t18 t c = search attr-asked

@@ -94,11 +94,7 @@ pub same-length-4 : (t : ℕ) → cond-lts.Need-same-length-4 (cond-calls t) (co
 same-length-4 t c = search cond-asked
 
 pub returns-4 : (t : ℕ) → cond-lts.Need-returns-4 (cond-calls t) (cond-at t) cond.Post
-returns-4 t c =
-    let pre = c .before .before .before .before .before .before .before .before .before .before .before .before .before .before .before .before .before .before .before .before .before .before .before .pre in
-    let either = c .before .before .before .before .before .before .before .before .before .before .before .before .before .before .before .before .before .before .before .either in
-    let r = c .before .before .before .before .before .before .before .before .before .before .before .before .before .before .before .r in
-    search cond-set
+returns-4 t c = search cond-set
 
 pub add-t19 : (t : ℕ) → cond-lts.Need-add-t19 (cond-calls t) (cond-at t) cond.Post
 add-t19 t c =
@@ -111,8 +107,4 @@ pub same-length-5 : (t : ℕ) → cond-lts.Need-same-length-5 (cond-calls t) (co
 same-length-5 t c = search cond-asked
 
 pub returns-5 : (t : ℕ) → cond-lts.Need-returns-5 (cond-calls t) (cond-at t) cond.Post
-returns-5 t c =
-    let pre = c .before .before .before .before .before .before .before .before .before .before .before .before .before .before .before .before .before .before .before .before .before .before .before .before .pre in
-    let either = c .before .before .before .before .before .before .before .before .before .before .before .before .before .before .before .before .before .before .before .before .either in
-    let r = c .before .before .before .before .before .before .before .before .before .before .before .before .before .before .before .before .r in
-    search cond-set
+returns-5 t c = search cond-set

@@ -37,8 +37,8 @@ same-length t c = search node-asked
 pub returns : (t : ℕ) → expr-lts.Need-returns (expr-calls t) (expr-at t) expr.Post
 returns t c = search expr-set
 
-pub put-node-requires : (t : ℕ) → expr-lts.Need-put-node-requires (expr-calls t) (expr-at t) expr.Post
-put-node-requires t c κs = search node-asked
+pub put-plain-requires : (t : ℕ) → expr-lts.Need-put-plain-requires (expr-calls t) (expr-at t) expr.Post
+put-plain-requires t c κs = search node-asked
 
 pub add-t10 : (t : ℕ) → expr-lts.Need-add-t10 (expr-calls t) (expr-at t) expr.Post
 add-t10 t c = search node-asked

@@ -5,14 +5,11 @@ use Rattle.reader.proofs.+args+arms+attr+attrs+call+child+children+choi
 use Rattle.reader.proofs.Asked.{fragment-wide, fragment-behind, fragment-shut}
 use Rattle.reader.proofs.Sets.{fragment-asked, fragment-set}
 
-pub inside-requires : (t : ℕ) → frag-lts.Need-inside-requires (frag-calls t) (frag-at t) frag.Post
-inside-requires t c κs = search fragment-asked
+pub add-put-opening : (t : ℕ) → frag-lts.Need-add-put-opening (frag-calls t) (frag-at t) frag.Post
+add-put-opening t c = search fragment-asked
 
-pub add-start : (t : ℕ) → frag-lts.Need-add-start (frag-calls t) (frag-at t) frag.Post
-add-start t c = search fragment-asked
-
-pub put-node-at-requires : (t : ℕ) → frag-lts.Need-put-node-at-requires (frag-calls t) (frag-at t) frag.Post
-put-node-at-requires t c κs = search fragment-asked
+pub put-opening-requires : (t : ℕ) → frag-lts.Need-put-opening-requires (frag-calls t) (frag-at t) frag.Post
+put-opening-requires t c κs = search fragment-asked
 
 pub mul-start : (t : ℕ) → frag-lts.Need-mul-start (frag-calls t) (frag-at t) frag.Post
 mul-start t c = search fragment-asked
@@ -34,6 +31,9 @@ part-children-end t c = search fragment-asked
 
 pub add-children : (t : ℕ) → frag-lts.Need-add-children (frag-calls t) (frag-at t) frag.Post
 add-children t c = search fragment-asked
+
+pub inside-requires : (t : ℕ) → frag-lts.Need-inside-requires (frag-calls t) (frag-at t) frag.Post
+inside-requires t c κs = search fragment-asked
 
 pub behind-requires : (t : ℕ) → frag-lts.Need-behind-requires (frag-calls t) (frag-at t) frag.Post
 behind-requires t c κs = search fragment-asked
@@ -61,10 +61,6 @@ add-shut-fragment-2 t c = search fragment-asked
 
 pub shut-fragment-requires : (t : ℕ) → frag-lts.Need-shut-fragment-requires (frag-calls t) (frag-at t) frag.Post
 shut-fragment-requires t c κs =
-    let pre = c .before .before .before .before .before .before .before .before .before .before .before .before .before .before .before .before .before .pre in
-    let inside = c .before .before .before .before .before .before .before .before .before .before .before .before .before .before .inside in
-    let put-node-at = c .before .before .before .before .before .before .before .before .before .before .before .before .put-node-at in
-    let start = c .before .before .before .before .before .before .before .before .before .start in
     (search fragment-wide, search fragment-behind, search fragment-shut, search fragment-asked)
 
 pub same-length-2 : (t : ℕ) → frag-lts.Need-same-length-2 (frag-calls t) (frag-at t) frag.Post
@@ -73,7 +69,6 @@ same-length-2 t c = search fragment-asked
 pub returns-2 : (t : ℕ) → frag-lts.Need-returns-2 (frag-calls t) (frag-at t) frag.Post
 returns-2 t c =
     let pre = c .before .before .before .before .before .before .before .before .before .before .before .before .before .before .before .before .before .before .before .before .pre in
-    let inside = c .before .before .before .before .before .before .before .before .before .before .before .before .before .before .before .before .before .inside in
-    let put-node-at = c .before .before .before .before .before .before .before .before .before .before .before .before .before .before .before .put-node-at in
-    let start = c .before .before .before .before .before .before .before .before .before .before .before .before .start in
+    let put-opening = c .before .before .before .before .before .before .before .before .before .before .before .before .before .before .before .before .put-opening in
+    let start = c .before .before .before .before .before .before .before .before .before .before .before .before .before .start in
     search fragment-set

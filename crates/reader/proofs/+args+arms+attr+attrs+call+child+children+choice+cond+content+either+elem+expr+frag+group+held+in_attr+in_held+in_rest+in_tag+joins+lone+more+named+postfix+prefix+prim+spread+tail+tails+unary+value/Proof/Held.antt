@@ -37,8 +37,8 @@ same-length t c = search node-asked
 pub returns : (t : ℕ) → held-lts.Need-returns (held-calls t) (held-at t) held.Post
 returns t c = search held-set
 
-pub put-node-requires : (t : ℕ) → held-lts.Need-put-node-requires (held-calls t) (held-at t) held.Post
-put-node-requires t c κs = search node-asked
+pub put-plain-requires : (t : ℕ) → held-lts.Need-put-plain-requires (held-calls t) (held-at t) held.Post
+put-plain-requires t c κs = search node-asked
 
 pub add-t11 : (t : ℕ) → held-lts.Need-add-t11 (held-calls t) (held-at t) held.Post
 add-t11 t c = search node-asked

@@ -87,8 +87,4 @@ pub same-length-5 : (t : ℕ) → in-attr-lts.Need-same-length-5 (in-attr-calls 
 same-length-5 t c = search asked
 
 pub returns-5 : (t : ℕ) → in-attr-lts.Need-returns-5 (in-attr-calls t) (in-attr-at t) in-attr.Post
-returns-5 t c =
-    let pre = c .before .before .before .before .before .before .before .before .before .before .before .before .before .before .before .before .before .before .before .before .before .before .before .pre in
-    let parse-jsx-attribute-name = c .before .before .before .before .before .before .before .before .before .before .before .before .before .before .before .before .before .before .before .parse-jsx-attribute-name in
-    let r = c .before .before .before .before .before .before .before .before .before .before .before .before .before .before .before .r in
-    search in-attr-set
+returns-5 t c = search in-attr-set

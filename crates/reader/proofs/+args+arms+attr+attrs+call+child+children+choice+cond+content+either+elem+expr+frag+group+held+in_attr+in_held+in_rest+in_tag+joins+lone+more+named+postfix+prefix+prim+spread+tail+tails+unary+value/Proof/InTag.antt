@@ -78,11 +78,7 @@ pub same-length-3 : (t : ℕ) → in-tag-lts.Need-same-length-3 (in-tag-calls t)
 same-length-3 t c = search in-tag-asked
 
 pub returns-3 : (t : ℕ) → in-tag-lts.Need-returns-3 (in-tag-calls t) (in-tag-at t) in-tag.Post
-returns-3 t c =
-    let pre = c .before .before .before .before .before .before .before .before .before .before .before .before .before .before .before .before .before .before .before .before .before .before .pre in
-    let parse-jsx-element-name = c .before .before .before .before .before .before .before .before .before .before .before .before .before .before .before .before .before .before .parse-jsx-element-name in
-    let r = c .before .before .before .before .before .before .before .before .before .before .before .before .before .before .r in
-    search in-tag-set
+returns-3 t c = search in-tag-set
 
 pub add-t18 : (t : ℕ) → in-tag-lts.Need-add-t18 (in-tag-calls t) (in-tag-at t) in-tag.Post
 add-t18 t c = search in-tag-asked

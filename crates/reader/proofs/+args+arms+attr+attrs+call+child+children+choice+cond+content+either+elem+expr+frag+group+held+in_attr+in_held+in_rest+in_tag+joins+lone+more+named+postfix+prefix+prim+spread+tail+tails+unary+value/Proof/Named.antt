@@ -4,9 +4,6 @@ use Rattle.reader.proofs.+args+arms+attr+attrs+call+child+children+choi
 use Rattle.reader.proofs.+args+arms+attr+attrs+call+child+children+choice+cond+content+either+elem+expr+frag+group+held+in_attr+in_held+in_rest+in_tag+joins+lone+more+named+postfix+prefix+prim+spread+tail+tails+unary+value.Proof.Setup.{named-calls, named-at}
 use Rattle.reader.proofs.Sets.{named-asked, named-set}
 
-pub inside-requires : (t : ℕ) → named-lts.Need-inside-requires (named-calls t) (named-at t) named.Post
-inside-requires t c κs = search named-asked
-
 pub mul-start : (t : ℕ) → named-lts.Need-mul-start (named-calls t) (named-at t) named.Post
 mul-start t c = search named-asked
 
@@ -24,6 +21,9 @@ part-in-tag-start t c = search named-asked
 
 pub part-in-tag-end : (t : ℕ) → named-lts.Need-part-in-tag-end (named-calls t) (named-at t) named.Post
 part-in-tag-end t c = search named-asked
+
+pub inside-requires : (t : ℕ) → named-lts.Need-inside-requires (named-calls t) (named-at t) named.Post
+inside-requires t c κs = search named-asked
 
 pub inside-requires-2 : (t : ℕ) → named-lts.Need-inside-requires-2 (named-calls t) (named-at t) named.Post
 inside-requires-2 t c κs = search named-asked
@@ -46,17 +46,17 @@ same-length t c = search named-asked
 pub returns : (t : ℕ) → named-lts.Need-returns (named-calls t) (named-at t) named.Post
 returns t c = search named-set
 
-pub put-node-at-requires : (t : ℕ) → named-lts.Need-put-node-at-requires (named-calls t) (named-at t) named.Post
-put-node-at-requires t c κs = search named-asked
+pub put-opening-requires : (t : ℕ) → named-lts.Need-put-opening-requires (named-calls t) (named-at t) named.Post
+put-opening-requires t c κs = search named-asked
 
-pub add-t29 : (t : ℕ) → named-lts.Need-add-t29 (named-calls t) (named-at t) named.Post
-add-t29 t c = search named-asked
+pub add-put-plain : (t : ℕ) → named-lts.Need-add-put-plain (named-calls t) (named-at t) named.Post
+add-put-plain t c = search named-asked
 
-pub put-node-requires : (t : ℕ) → named-lts.Need-put-node-requires (named-calls t) (named-at t) named.Post
-put-node-requires t c κs = search named-asked
+pub put-plain-requires : (t : ℕ) → named-lts.Need-put-plain-requires (named-calls t) (named-at t) named.Post
+put-plain-requires t c κs = search named-asked
 
-pub add-t29-2 : (t : ℕ) → named-lts.Need-add-t29-2 (named-calls t) (named-at t) named.Post
-add-t29-2 t c = search named-asked
+pub add-t28 : (t : ℕ) → named-lts.Need-add-t28 (named-calls t) (named-at t) named.Post
+add-t28 t c = search named-asked
 
 pub same-length-2 : (t : ℕ) → named-lts.Need-same-length-2 (named-calls t) (named-at t) named.Post
 same-length-2 t c = search named-asked
@@ -64,8 +64,9 @@ same-length-2 t c = search named-asked
 pub returns-2 : (t : ℕ) → named-lts.Need-returns-2 (named-calls t) (named-at t) named.Post
 returns-2 t c =
     let pre = c .before .before .before .before .before .before .before .before .before .before .before .before .before .before .before .before .before .before .before .before .before .pre in
-    let inside = c .before .before .before .before .before .before .before .before .before .before .before .before .before .before .before .before .before .before .inside in
-    let start = c .before .before .before .before .before .before .before .before .before .before .before .before .before .before .before .before .before .start in
+    let start = c .before .before .before .before .before .before .before .before .before .before .before .before .before .before .before .before .before .before .start in
+    let inside = c .before .before .before .before .before .before .before .before .before .before .before .before .before .before .before .before .inside in
+    let inside2 = c .before .before .before .before .before .before .before .before .before .before .before .before .before .before .before .inside2 in
     let in-tag = c .before .before .before .before .before .before .before .before .before .before .before .before .before .before .in-tag in
     let r = c .before .before .before .before .before .before .before .before .before .before .r in
     search named-set
@@ -82,8 +83,9 @@ same-length-3 t c = search named-asked
 pub returns-3 : (t : ℕ) → named-lts.Need-returns-3 (named-calls t) (named-at t) named.Post
 returns-3 t c =
     let pre = c .before .before .before .before .before .before .before .before .before .before .before .before .before .before .before .before .before .before .before .before .before .pre in
-    let inside = c .before .before .before .before .before .before .before .before .before .before .before .before .before .before .before .before .before .before .inside in
-    let start = c .before .before .before .before .before .before .before .before .before .before .before .before .before .before .before .before .before .start in
+    let start = c .before .before .before .before .before .before .before .before .before .before .before .before .before .before .before .before .before .before .start in
+    let inside = c .before .before .before .before .before .before .before .before .before .before .before .before .before .before .before .before .inside in
+    let inside2 = c .before .before .before .before .before .before .before .before .before .before .before .before .before .before .before .inside2 in
     let in-tag = c .before .before .before .before .before .before .before .before .before .before .before .before .before .before .in-tag in
     let r = c .before .before .before .before .before .before .before .before .before .before .r in
     search named-set

@@ -119,8 +119,6 @@ use Rattle.reader.proofs.refusal.Reads as refusal-reads
 use Rattle.refused.proofs.primary_word.Reads as primary-word-reads
 use Rattle.table.proofs.Slot.behind.Reads as behind-reads
 use Rattle.table.proofs.Slot.inside.Reads as inside-reads
-use Rattle.table.proofs.put_node.Reads as put-node-reads
-use Rattle.table.proofs.put_node_at.Reads as put-node-at-reads
 use Rattle.table.proofs.start.Reads as start-reads
 use Rattle.tag.proofs.close_by.Reads as close-by-reads
 use Rattle.tag.proofs.no_sibling.Reads as no-sibling-reads
@@ -137,6 +135,8 @@ use Rattle.token.proofs.dot_word.Reads as dot-word-reads
 use Rattle.token.proofs.dots.Reads as dots-reads
 use Rattle.token.proofs.empty_braces.Reads as empty-braces-reads
 use Rattle.token.proofs.operator.Reads as operator-reads
+use Rattle.token.proofs.put_opening.Reads as put-opening-reads
+use Rattle.token.proofs.put_plain.Reads as put-plain-reads
 use Rattle.token.proofs.shut.Reads as shut-reads
 use Rattle.token.proofs.shut_braces.Reads as shut-braces-reads
 use Rattle.token.proofs.shut_fragment.Reads as shut-fragment-reads
@@ -477,7 +477,7 @@ arms-calls t =
 
 abbrev pub attr-calls : ℕ → attr-lts.Claims
 attr-calls t =
-    (byte-reads.Asked, byte-reads.Learnt, pass-reads.Asked, pass-reads.Learnt, spread-below t, spread.Post, start-reads.Asked, start-reads.Learnt, inside-reads.Asked, inside-reads.Learnt, in-attr-below t, in-attr.Post, put-node-reads.Asked, put-node-reads.Learnt)
+    (byte-reads.Asked, byte-reads.Learnt, pass-reads.Asked, pass-reads.Learnt, spread-below t, spread.Post, start-reads.Asked, start-reads.Learnt, inside-reads.Asked, inside-reads.Learnt, in-attr-below t, in-attr.Post, put-plain-reads.Asked, put-plain-reads.Learnt)
 
 abbrev pub attrs-calls : ℕ → attrs-lts.Claims
 attrs-calls t =
@@ -517,11 +517,11 @@ elem-calls t =
 
 abbrev pub expr-calls : ℕ → expr-lts.Claims
 expr-calls t =
-    (start-reads.Asked, start-reads.Learnt, inside-reads.Asked, inside-reads.Learnt, cond-below t, cond.Post, put-node-reads.Asked, put-node-reads.Learnt)
+    (start-reads.Asked, start-reads.Learnt, inside-reads.Asked, inside-reads.Learnt, cond-below t, cond.Post, put-plain-reads.Asked, put-plain-reads.Learnt)
 
 abbrev pub frag-calls : ℕ → frag-lts.Claims
 frag-calls t =
-    (inside-reads.Asked, inside-reads.Learnt, put-node-at-reads.Asked, put-node-at-reads.Learnt, start-reads.Asked, start-reads.Learnt, behind-reads.Asked, behind-reads.Learnt, children-below t, children.Post, shut-fragment-reads.Asked, shut-fragment-reads.Learnt)
+    (put-opening-reads.Asked, put-opening-reads.Learnt, start-reads.Asked, start-reads.Learnt, inside-reads.Asked, inside-reads.Learnt, behind-reads.Asked, behind-reads.Learnt, children-below t, children.Post, shut-fragment-reads.Asked, shut-fragment-reads.Learnt)
 
 abbrev pub group-calls : ℕ → group-lts.Claims
 group-calls t =
@@ -529,7 +529,7 @@ group-calls t =
 
 abbrev pub held-calls : ℕ → held-lts.Claims
 held-calls t =
-    (start-reads.Asked, start-reads.Learnt, inside-reads.Asked, inside-reads.Learnt, in-held-below t, in-held.Post, put-node-reads.Asked, put-node-reads.Learnt)
+    (start-reads.Asked, start-reads.Learnt, inside-reads.Asked, inside-reads.Learnt, in-held-below t, in-held.Post, put-plain-reads.Asked, put-plain-reads.Learnt)
 
 abbrev pub in-attr-calls : ℕ → in-attr-lts.Claims
 in-attr-calls t =
@@ -561,7 +561,7 @@ more-calls t =
 
 abbrev pub named-calls : ℕ → named-lts.Claims
 named-calls t =
-    (inside-reads.Asked, inside-reads.Learnt, start-reads.Asked, start-reads.Learnt, in-tag-below t, in-tag.Post, plain-reads.Asked, plain-reads.Learnt, put-node-at-reads.Asked, put-node-at-reads.Learnt, put-node-reads.Asked, put-node-reads.Learnt, content-below t, content.Post)
+    (start-reads.Asked, start-reads.Learnt, inside-reads.Asked, inside-reads.Learnt, in-tag-below t, in-tag.Post, plain-reads.Asked, plain-reads.Learnt, put-opening-reads.Asked, put-opening-reads.Learnt, put-plain-reads.Asked, put-plain-reads.Learnt, content-below t, content.Post)
 
 abbrev pub postfix-calls : ℕ → postfix-lts.Claims
 postfix-calls t =
@@ -577,7 +577,7 @@ prim-calls t =
 
 abbrev pub spread-calls : ℕ → spread-lts.Claims
 spread-calls t =
-    (start-reads.Asked, start-reads.Learnt, inside-reads.Asked, inside-reads.Learnt, in-rest-below t, in-rest.Post, put-node-reads.Asked, put-node-reads.Learnt)
+    (start-reads.Asked, start-reads.Learnt, inside-reads.Asked, inside-reads.Learnt, in-rest-below t, in-rest.Post, put-plain-reads.Asked, put-plain-reads.Learnt)
 
 abbrev pub tail-calls : ℕ → tail-lts.Claims
 tail-calls t =

@@ -37,8 +37,8 @@ same-length t c = search node-asked
 pub returns : (t : ℕ) → spread-lts.Need-returns (spread-calls t) (spread-at t) spread.Post
 returns t c = search spread-set
 
-pub put-node-requires : (t : ℕ) → spread-lts.Need-put-node-requires (spread-calls t) (spread-at t) spread.Post
-put-node-requires t c κs = search node-asked
+pub put-plain-requires : (t : ℕ) → spread-lts.Need-put-plain-requires (spread-calls t) (spread-at t) spread.Post
+put-plain-requires t c κs = search node-asked
 
 pub add-t12 : (t : ℕ) → spread-lts.Need-add-t12 (spread-calls t) (spread-at t) spread.Post
 add-t12 t c = search node-asked
