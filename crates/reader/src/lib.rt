@@ -6,7 +6,9 @@ ghost use lib.ListN.{length};
 ghost use Rattle.rules.specs.Rule.{many, _⨾_};
 ghost use Rattle.rules.specs.Parse.{byteAt};
 ghost use Rattle.jsx.specs.Blank.{pass};
-ghost use Rattle.jsx.specs.Expression.{primary as primaryRule, postfix as postfixRule, postfixTurn, unary as unaryRule, either as eitherRule, conditional, question, expression, argumentTurn, noSibling};
+ghost use Rattle.jsx.specs.Expression.{primary as primaryRule, postfix as postfixRule, postfixTurn, unary as unaryRule};
+ghost use Rattle.jsx.specs.Expression.{either as eitherRule, conditional, question, expression, argumentTurn};
+ghost use Rattle.jsx.specs.Expression.{noSibling};
 ghost use Rattle.jsx.specs.Braces.{container, spread as spreadRule};
 ghost use Rattle.jsx.specs.Tag.{value as valueRule, attribute, attributes};
 ghost use Rattle.jsx.specs.Element.{children as childrenRule, fragmentIn, namedIn};
@@ -14,7 +16,8 @@ ghost use Rattle.jsx.specs.Depth.{within};
 ghost use Rattle.lex.specs.Contract.{Past};
 ghost use Rattle.table.specs.Reader.{Room, Made};
 ghost use Rattle.tag.specs.Close.{Opening};
-ghost use Rattle.reader.specs.Cut.{groupBy, arguments, tailOf, operandTurn, armsOf, inContainer, inSpread, inAttribute};
+ghost use Rattle.reader.specs.Cut.{groupBy, arguments, tailOf, operandTurn, armsOf, inContainer, inSpread};
+ghost use Rattle.reader.specs.Cut.{inAttribute};
 ghost use Rattle.reader.specs.Contract.{TagMade, Ready, Content, ChildMade, plain as plainOf};
 use lex::Ans;
 use lex::bytes::BANG;
@@ -130,7 +133,8 @@ fn args(t: &mut [u32], s: &[u8], at: usize, d: usize, slot: Slot) -> Ans
 // Conditionals behind the first of a call, each behind a comma, as many as there are.
 fn more(t: &mut [u32], s: &[u8], at: usize, d: usize, slot: Slot) -> Ans
     requires { ⌜ Room 3 (now s) at slot ⌝ }
-    ensures { λ r. ⌜ Made r (now (s .entry)) (many (argumentTurn (within d))) at 0 slot 0 (now (t .entry)) (now (t .exit)) ⌝ }
+    ensures { λ r. ⌜ Made r (now (s .entry)) (many (argumentTurn (within d))) at 0 slot 0
+        (now (t .entry)) (now (t .exit)) ⌝ }
 {
     let mut p = at; // the last one ends here
     let mut m = 0; // as many records were made
@@ -194,7 +198,8 @@ fn tail(t: &mut [u32], s: &[u8], at: usize, d: usize, slot: Slot) -> Ans
 // What stands behind a primary: `.name`, `[conditional]` and calls, as many as there are.
 fn tails(t: &mut [u32], s: &[u8], at: usize, d: usize, slot: Slot) -> Ans
     requires { ⌜ Room 3 (now s) at slot ⌝ }
-    ensures { λ r. ⌜ Made r (now (s .entry)) (many (postfixTurn (within d))) at 0 slot 0 (now (t .entry)) (now (t .exit)) ⌝ }
+    ensures { λ r. ⌜ Made r (now (s .entry)) (many (postfixTurn (within d))) at 0 slot 0
+        (now (t .entry)) (now (t .exit)) ⌝ }
 {
     let mut p = at; // the last one ends here
     let mut m = 0; // as many records were made
@@ -251,7 +256,8 @@ fn prefix(t: &mut [u32], s: &[u8], at: usize, d: usize, slot: Slot) -> Ans
 // An element or a fragment that is no child, and nothing behind it that n or 12 refuses.
 fn lone(t: &mut [u32], s: &[u8], at: usize, n: u32, d: usize, slot: Slot) -> Ans
     requires { ⌜ Room 3 (now s) at slot × (at < length (now s)) ⌝ }
-    ensures { λ r. ⌜ Made r (now (s .entry)) (within d .element ⨾ noSibling n) at 1 slot 0 (now (t .entry)) (now (t .exit)) ⌝ }
+    ensures { λ r. ⌜ Made r (now (s .entry)) (within d .element ⨾ noSibling n) at 1 slot 0
+        (now (t .entry)) (now (t .exit)) ⌝ }
 {
     let r = blank::pass(s, at);
     let Ans::Got(a, _) = r else {
@@ -292,7 +298,8 @@ fn unary(t: &mut [u32], s: &[u8], at: usize, d: usize, slot: Slot) -> Ans
 // Unaries behind the first, each behind an operator, as many as there are.
 fn joins(t: &mut [u32], s: &[u8], at: usize, d: usize, slot: Slot) -> Ans
     requires { ⌜ Room 3 (now s) at slot ⌝ }
-    ensures { λ r. ⌜ Made r (now (s .entry)) (many (operandTurn (within d))) at 0 slot 0 (now (t .entry)) (now (t .exit)) ⌝ }
+    ensures { λ r. ⌜ Made r (now (s .entry)) (many (operandTurn (within d))) at 0 slot 0
+        (now (t .entry)) (now (t .exit)) ⌝ }
 {
     let mut p = at; // the last one ends here
     let mut m = 0; // as many records were made
@@ -466,7 +473,8 @@ fn in_rest(t: &mut [u32], s: &[u8], at: usize, d: usize, slot: Slot) -> Ans
 // `{...expression}` and its record, of this kind.
 fn spread(t: &mut [u32], s: &[u8], at: usize, q: usize, kind: usize, d: usize, slot: Slot) -> Ans
     requires { ⌜ Room 3 (now s) at slot × Past q (now s) pass at 1 × (kind < 2 ^ 32) ⌝ }
-    ensures { λ r. ⌜ Made r (now (s .entry)) (spreadRule kind (within d)) at 3 slot 0 (now (t .entry)) (now (t .exit)) ⌝ }
+    ensures { λ r. ⌜ Made r (now (s .entry)) (spreadRule kind (within d)) at 3 slot 0
+        (now (t .entry)) (now (t .exit)) ⌝ }
 {
     let i = table::start(t.len(), ROW_WORDS);
     let r = in_rest(&mut t[i..], s, q, d, slot.inside());
@@ -754,7 +762,8 @@ fn refusal(r: Ans) -> Tagged
 // An element or a fragment that is no child, and nothing behind it that n or 12 refuses.
 pub fn parse_jsx_element(t: &mut [u32], s: &[u8], at: usize, n: u32, d: usize, slot: Slot) -> Ans
     requires { ⌜ Room 3 (now s) at slot × (at < length (now s)) ⌝ }
-    ensures { λ r. ⌜ Made r (now (s .entry)) (within d .element ⨾ noSibling n) at 1 slot 0 (now (t .entry)) (now (t .exit)) ⌝ }
+    ensures { λ r. ⌜ Made r (now (s .entry)) (within d .element ⨾ noSibling n) at 1 slot 0
+        (now (t .entry)) (now (t .exit)) ⌝ }
 {
     lone(t, s, at, n, d, slot)
 }

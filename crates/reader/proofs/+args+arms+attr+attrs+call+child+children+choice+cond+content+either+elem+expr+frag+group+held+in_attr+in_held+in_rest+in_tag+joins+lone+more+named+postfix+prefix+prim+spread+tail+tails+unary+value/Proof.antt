@@ -97,11 +97,24 @@ mod Tail
 mod Tails
 mod Unary
 mod Value
-use Setup.{μ-args, μ-arms, μ-attr, μ-attrs, μ-call, μ-child, μ-children, μ-choice, μ-cond, μ-content, μ-either, μ-elem, μ-expr, μ-frag, μ-group, μ-held, μ-in-attr, μ-in-held, μ-in-rest, μ-in-tag, μ-joins, μ-lone, μ-more, μ-named, μ-postfix, μ-prefix, μ-prim, μ-spread, μ-tail, μ-tails, μ-unary, μ-value, args-calls, args-at, arms-calls, arms-at, attr-calls, attr-at, attrs-calls, attrs-at, attrs-Inv-loop, attrs-μ-loop, call-calls, call-at, child-calls, child-at, children-calls, children-at, children-Inv-loop, children-μ-loop, choice-calls, choice-at, cond-calls, cond-at, content-calls, content-at, either-calls, either-at, elem-calls, elem-at, expr-calls, expr-at, frag-calls, frag-at, group-calls, group-at, held-calls, held-at, in-attr-calls, in-attr-at, in-held-calls, in-held-at, in-rest-calls, in-rest-at, in-tag-calls, in-tag-at, joins-calls, joins-at, joins-Inv-loop, joins-μ-loop, lone-calls, lone-at, more-calls, more-at, more-Inv-loop, more-μ-loop, named-calls, named-at, postfix-calls, postfix-at, prefix-calls, prefix-at, prim-calls, prim-at, spread-calls, spread-at, tail-calls, tail-at, tails-calls, tails-at, tails-Inv-loop, tails-μ-loop, unary-calls, unary-at, value-calls, value-at}
+use Setup.{μ-args, μ-arms, μ-attr, μ-attrs, μ-call, μ-child, μ-children, μ-choice, μ-cond, μ-content, μ-either, μ-elem}
+use Setup.{μ-expr, μ-frag, μ-group, μ-held, μ-in-attr, μ-in-held, μ-in-rest, μ-in-tag, μ-joins, μ-lone, μ-more, μ-named}
+use Setup.{μ-postfix, μ-prefix, μ-prim, μ-spread, μ-tail, μ-tails, μ-unary, μ-value, args-calls, args-at, arms-calls}
+use Setup.{arms-at, attr-calls, attr-at, attrs-calls, attrs-at, attrs-Inv-loop, attrs-μ-loop, call-calls, call-at}
+use Setup.{child-calls, child-at, children-calls, children-at, children-Inv-loop, children-μ-loop, choice-calls}
+use Setup.{choice-at, cond-calls, cond-at, content-calls, content-at, either-calls, either-at, elem-calls, elem-at}
+use Setup.{expr-calls, expr-at, frag-calls, frag-at, group-calls, group-at, held-calls, held-at, in-attr-calls}
+use Setup.{in-attr-at, in-held-calls, in-held-at, in-rest-calls, in-rest-at, in-tag-calls, in-tag-at, joins-calls}
+use Setup.{joins-at, joins-Inv-loop, joins-μ-loop, lone-calls, lone-at, more-calls, more-at, more-Inv-loop, more-μ-loop}
+use Setup.{named-calls, named-at, postfix-calls, postfix-at, prefix-calls, prefix-at, prim-calls, prim-at, spread-calls}
+use Setup.{spread-at, tail-calls, tail-at, tails-calls, tails-at, tails-Inv-loop, tails-μ-loop, unary-calls, unary-at}
+use Setup.{value-calls, value-at}
 
 pub +args+arms+attr+attrs+call+child+children+choice+cond+content+either+elem+expr+frag+group+held+in-attr+in-held+in-rest+in-tag+joins+lone+more+named+postfix+prefix+prim+spread+tail+tails+unary+value-spec : {M : Type 1} → statement M
 +args+arms+attr+attrs+call+child+children+choice+cond+content+either+elem+expr+frag+group+held+in-attr+in-held+in-rest+in-tag+joins+lone+more+named+postfix+prefix+prim+spread+tail+tails+unary+value-spec =
-    close μ-args μ-arms μ-attr μ-attrs μ-call μ-child μ-children μ-choice μ-cond μ-content μ-either μ-elem μ-expr μ-frag μ-group μ-held μ-in-attr μ-in-held μ-in-rest μ-in-tag μ-joins μ-lone μ-more μ-named μ-postfix μ-prefix μ-prim μ-spread μ-tail μ-tails μ-unary μ-value
+    close μ-args μ-arms μ-attr μ-attrs μ-call μ-child μ-children μ-choice μ-cond μ-content μ-either μ-elem μ-expr μ-frag
+    μ-group μ-held μ-in-attr μ-in-held μ-in-rest μ-in-tag μ-joins μ-lone μ-more μ-named μ-postfix μ-prefix μ-prim
+    μ-spread μ-tail μ-tails μ-unary μ-value
     (λ t. args-lts.spec (args-calls t) (args-at t) args.Post
     (Args.cond-requires t)
     (Args.enum-known-r t)

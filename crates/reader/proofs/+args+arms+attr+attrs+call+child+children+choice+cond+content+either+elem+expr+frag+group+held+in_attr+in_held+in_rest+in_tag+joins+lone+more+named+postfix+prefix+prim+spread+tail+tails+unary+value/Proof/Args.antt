@@ -73,9 +73,12 @@ returns-3 t c = search args-set
 
 pub add-t17 : (t : ℕ) → args-lts.Need-add-t17 (args-calls t) (args-at t) args.Post
 add-t17 t c =
-    let pre = c .before .before .before .before .before .before .before .before .before .before .before .before .before .before .before .before .before .before .before .before .before .before .pre in
-    let cond = c .before .before .before .before .before .before .before .before .before .before .before .before .before .before .before .before .before .before .cond in
-    let r = c .before .before .before .before .before .before .before .before .before .before .before .before .before .before .r in
+    let pre = c .before .before .before .before .before .before .before .before .before .before .before .before .before
+    .before .before .before .before .before .before .before .before .before .pre in
+    let cond = c .before .before .before .before .before .before .before .before .before .before .before .before .before
+    .before .before .before .before .before .cond in
+    let r = c .before .before .before .before .before .before .before .before .before .before .before .before .before
+    .before .r in
     search asked
 
 pub same-length-4 : (t : ℕ) → args-lts.Need-same-length-4 (args-calls t) (args-at t) args.Post

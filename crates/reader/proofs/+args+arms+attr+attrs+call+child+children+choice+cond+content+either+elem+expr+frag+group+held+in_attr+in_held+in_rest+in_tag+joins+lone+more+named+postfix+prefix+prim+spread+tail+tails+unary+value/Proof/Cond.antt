@@ -70,8 +70,10 @@ behind-requires t c κs = search cond-asked
 
 pub choice-requires : (t : ℕ) → cond-lts.Need-choice-requires (cond-calls t) (cond-at t) cond.Post
 choice-requires t c κs =
-    let pre = c .before .before .before .before .before .before .before .before .before .before .before .before .before .before .before .before .before .before .pre in
-    let either = c .before .before .before .before .before .before .before .before .before .before .before .before .before .before .either in
+    let pre = c .before .before .before .before .before .before .before .before .before .before .before .before .before
+    .before .before .before .before .before .pre in
+    let either = c .before .before .before .before .before .before .before .before .before .before .before .before
+    .before .before .either in
     let r = c .before .before .before .before .before .before .before .before .before .before .r in
     let skip-blanks = c .before .before .before .before .before .before .before .before .skip-blanks in
     let r2 = c .before .before .before .before .before .before .r2 in
@@ -98,9 +100,12 @@ returns-4 t c = search cond-set
 
 pub add-t19 : (t : ℕ) → cond-lts.Need-add-t19 (cond-calls t) (cond-at t) cond.Post
 add-t19 t c =
-    let pre = c .before .before .before .before .before .before .before .before .before .before .before .before .before .before .before .before .before .before .before .before .before .before .before .before .pre in
-    let either = c .before .before .before .before .before .before .before .before .before .before .before .before .before .before .before .before .before .before .before .before .either in
-    let r = c .before .before .before .before .before .before .before .before .before .before .before .before .before .before .before .before .r in
+    let pre = c .before .before .before .before .before .before .before .before .before .before .before .before .before
+    .before .before .before .before .before .before .before .before .before .before .before .pre in
+    let either = c .before .before .before .before .before .before .before .before .before .before .before .before
+    .before .before .before .before .before .before .before .before .either in
+    let r = c .before .before .before .before .before .before .before .before .before .before .before .before .before
+    .before .before .before .r in
     search cond-asked
 
 pub same-length-5 : (t : ℕ) → cond-lts.Need-same-length-5 (cond-calls t) (cond-at t) cond.Post

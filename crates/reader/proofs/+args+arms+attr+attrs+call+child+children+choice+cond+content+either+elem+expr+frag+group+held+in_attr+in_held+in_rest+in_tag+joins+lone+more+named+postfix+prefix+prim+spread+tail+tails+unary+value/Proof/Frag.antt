@@ -68,7 +68,10 @@ same-length-2 t c = search fragment-asked
 
 pub returns-2 : (t : ℕ) → frag-lts.Need-returns-2 (frag-calls t) (frag-at t) frag.Post
 returns-2 t c =
-    let pre = c .before .before .before .before .before .before .before .before .before .before .before .before .before .before .before .before .before .before .before .before .pre in
-    let put-opening = c .before .before .before .before .before .before .before .before .before .before .before .before .before .before .before .before .put-opening in
-    let start = c .before .before .before .before .before .before .before .before .before .before .before .before .before .start in
+    let pre = c .before .before .before .before .before .before .before .before .before .before .before .before .before
+    .before .before .before .before .before .before .before .pre in
+    let put-opening = c .before .before .before .before .before .before .before .before .before .before .before .before
+    .before .before .before .before .put-opening in
+    let start = c .before .before .before .before .before .before .before .before .before .before .before .before
+    .before .start in
     search fragment-set

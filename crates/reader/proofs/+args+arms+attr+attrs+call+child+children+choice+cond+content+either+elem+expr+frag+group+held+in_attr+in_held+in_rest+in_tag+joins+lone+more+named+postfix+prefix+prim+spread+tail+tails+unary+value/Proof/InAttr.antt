@@ -4,7 +4,8 @@ use Rattle.reader.proofs.+args+arms+attr+attrs+call+child+children+choi
 use Rattle.reader.proofs.+args+arms+attr+attrs+call+child+children+choice+cond+content+either+elem+expr+frag+group+held+in_attr+in_held+in_rest+in_tag+joins+lone+more+named+postfix+prefix+prim+spread+tail+tails+unary+value.Proof.Setup.{in-attr-calls, in-attr-at}
 use Rattle.reader.proofs.Sets.{asked, in-attr-set}
 
-pub parse-jsx-attribute-name-requires : (t : ℕ) → in-attr-lts.Need-parse-jsx-attribute-name-requires (in-attr-calls t) (in-attr-at t) in-attr.Post
+pub parse-jsx-attribute-name-requires : (t : ℕ)
+    → in-attr-lts.Need-parse-jsx-attribute-name-requires (in-attr-calls t) (in-attr-at t) in-attr.Post
 parse-jsx-attribute-name-requires t c κs = search asked
 
 pub enum-known-r : (t : ℕ) → in-attr-lts.Need-enum-known-r (in-attr-calls t) (in-attr-at t) in-attr.Post
@@ -78,9 +79,12 @@ returns-4 t c = search in-attr-set
 
 pub add-t19 : (t : ℕ) → in-attr-lts.Need-add-t19 (in-attr-calls t) (in-attr-at t) in-attr.Post
 add-t19 t c =
-    let pre = c .before .before .before .before .before .before .before .before .before .before .before .before .before .before .before .before .before .before .before .before .before .before .before .pre in
-    let parse-jsx-attribute-name = c .before .before .before .before .before .before .before .before .before .before .before .before .before .before .before .before .before .before .before .parse-jsx-attribute-name in
-    let r = c .before .before .before .before .before .before .before .before .before .before .before .before .before .before .before .r in
+    let pre = c .before .before .before .before .before .before .before .before .before .before .before .before .before
+    .before .before .before .before .before .before .before .before .before .before .pre in
+    let parse-jsx-attribute-name = c .before .before .before .before .before .before .before .before .before .before
+    .before .before .before .before .before .before .before .before .before .parse-jsx-attribute-name in
+    let r = c .before .before .before .before .before .before .before .before .before .before .before .before .before
+    .before .before .r in
     search asked
 
 pub same-length-5 : (t : ℕ) → in-attr-lts.Need-same-length-5 (in-attr-calls t) (in-attr-at t) in-attr.Post

@@ -5,7 +5,8 @@ use Rattle.reader.proofs.+args+arms+attr+attrs+call+child+children+choi
 use Rattle.table.proofs.Asked.{made-inside}
 use Rattle.reader.proofs.Sets.{in-tag-asked, in-tag-set}
 
-pub parse-jsx-element-name-requires : (t : ℕ) → in-tag-lts.Need-parse-jsx-element-name-requires (in-tag-calls t) (in-tag-at t) in-tag.Post
+pub parse-jsx-element-name-requires : (t : ℕ)
+    → in-tag-lts.Need-parse-jsx-element-name-requires (in-tag-calls t) (in-tag-at t) in-tag.Post
 parse-jsx-element-name-requires t c κs = search in-tag-asked
 
 pub enum-known-r : (t : ℕ) → in-tag-lts.Need-enum-known-r (in-tag-calls t) (in-tag-at t) in-tag.Post

@@ -7,7 +7,8 @@ use Rattle.reader.proofs.Sets.{loop-asked, more-set}
 pub loop-holds : (t : ℕ) → more-lts.Need-loop-holds (more-calls t) (more-at t) more.Post more-Inv-loop more-μ-loop
 loop-holds t c = search more-set
 
-pub comma-requires : (t : ℕ) → more-lts.Need-comma-requires (more-calls t) (more-at t) more.Post more-Inv-loop more-μ-loop
+pub comma-requires : (t : ℕ)
+    → more-lts.Need-comma-requires (more-calls t) (more-at t) more.Post more-Inv-loop more-μ-loop
 comma-requires t c κs = search loop-asked
 
 pub enum-known-r : (t : ℕ) → more-lts.Need-enum-known-r (more-calls t) (more-at t) more.Post more-Inv-loop more-μ-loop
@@ -31,7 +32,8 @@ returns-2 t c = search more-set
 pub mul-start : (t : ℕ) → more-lts.Need-mul-start (more-calls t) (more-at t) more.Post more-Inv-loop more-μ-loop
 mul-start t c = search loop-asked
 
-pub start-requires : (t : ℕ) → more-lts.Need-start-requires (more-calls t) (more-at t) more.Post more-Inv-loop more-μ-loop
+pub start-requires : (t : ℕ)
+    → more-lts.Need-start-requires (more-calls t) (more-at t) more.Post more-Inv-loop more-μ-loop
 start-requires t c κs = search loop-asked
 
 pub mul-cond : (t : ℕ) → more-lts.Need-mul-cond (more-calls t) (more-at t) more.Post more-Inv-loop more-μ-loop
@@ -40,13 +42,15 @@ mul-cond t c = search loop-asked
 pub sub-cond : (t : ℕ) → more-lts.Need-sub-cond (more-calls t) (more-at t) more.Post more-Inv-loop more-μ-loop
 sub-cond t c = search loop-asked
 
-pub part-cond-start : (t : ℕ) → more-lts.Need-part-cond-start (more-calls t) (more-at t) more.Post more-Inv-loop more-μ-loop
+pub part-cond-start : (t : ℕ)
+    → more-lts.Need-part-cond-start (more-calls t) (more-at t) more.Post more-Inv-loop more-μ-loop
 part-cond-start t c = search loop-asked
 
 pub part-cond-end : (t : ℕ) → more-lts.Need-part-cond-end (more-calls t) (more-at t) more.Post more-Inv-loop more-μ-loop
 part-cond-end t c = search loop-asked
 
-pub behind-requires : (t : ℕ) → more-lts.Need-behind-requires (more-calls t) (more-at t) more.Post more-Inv-loop more-μ-loop
+pub behind-requires : (t : ℕ)
+    → more-lts.Need-behind-requires (more-calls t) (more-at t) more.Post more-Inv-loop more-μ-loop
 behind-requires t c κs = search loop-asked
 
 pub cond-requires : (t : ℕ) → more-lts.Need-cond-requires (more-calls t) (more-at t) more.Post more-Inv-loop more-μ-loop

@@ -63,11 +63,16 @@ same-length-2 t c = search named-asked
 
 pub returns-2 : (t : ℕ) → named-lts.Need-returns-2 (named-calls t) (named-at t) named.Post
 returns-2 t c =
-    let pre = c .before .before .before .before .before .before .before .before .before .before .before .before .before .before .before .before .before .before .before .before .before .pre in
-    let start = c .before .before .before .before .before .before .before .before .before .before .before .before .before .before .before .before .before .before .start in
-    let inside = c .before .before .before .before .before .before .before .before .before .before .before .before .before .before .before .before .inside in
-    let inside2 = c .before .before .before .before .before .before .before .before .before .before .before .before .before .before .before .inside2 in
-    let in-tag = c .before .before .before .before .before .before .before .before .before .before .before .before .before .before .in-tag in
+    let pre = c .before .before .before .before .before .before .before .before .before .before .before .before .before
+    .before .before .before .before .before .before .before .before .pre in
+    let start = c .before .before .before .before .before .before .before .before .before .before .before .before
+    .before .before .before .before .before .before .start in
+    let inside = c .before .before .before .before .before .before .before .before .before .before .before .before
+    .before .before .before .before .inside in
+    let inside2 = c .before .before .before .before .before .before .before .before .before .before .before .before
+    .before .before .before .inside2 in
+    let in-tag = c .before .before .before .before .before .before .before .before .before .before .before .before
+    .before .before .in-tag in
     let r = c .before .before .before .before .before .before .before .before .before .before .r in
     search named-set
 
@@ -82,10 +87,15 @@ same-length-3 t c = search named-asked
 
 pub returns-3 : (t : ℕ) → named-lts.Need-returns-3 (named-calls t) (named-at t) named.Post
 returns-3 t c =
-    let pre = c .before .before .before .before .before .before .before .before .before .before .before .before .before .before .before .before .before .before .before .before .before .pre in
-    let start = c .before .before .before .before .before .before .before .before .before .before .before .before .before .before .before .before .before .before .start in
-    let inside = c .before .before .before .before .before .before .before .before .before .before .before .before .before .before .before .before .inside in
-    let inside2 = c .before .before .before .before .before .before .before .before .before .before .before .before .before .before .before .inside2 in
-    let in-tag = c .before .before .before .before .before .before .before .before .before .before .before .before .before .before .in-tag in
+    let pre = c .before .before .before .before .before .before .before .before .before .before .before .before .before
+    .before .before .before .before .before .before .before .before .pre in
+    let start = c .before .before .before .before .before .before .before .before .before .before .before .before
+    .before .before .before .before .before .before .start in
+    let inside = c .before .before .before .before .before .before .before .before .before .before .before .before
+    .before .before .before .before .inside in
+    let inside2 = c .before .before .before .before .before .before .before .before .before .before .before .before
+    .before .before .before .inside2 in
+    let in-tag = c .before .before .before .before .before .before .before .before .before .before .before .before
+    .before .before .in-tag in
     let r = c .before .before .before .before .before .before .before .before .before .before .r in
     search named-set

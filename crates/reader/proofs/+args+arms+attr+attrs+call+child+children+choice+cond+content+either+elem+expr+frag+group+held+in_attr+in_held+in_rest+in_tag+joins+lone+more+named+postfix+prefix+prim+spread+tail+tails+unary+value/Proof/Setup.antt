@@ -468,28 +468,84 @@ abbrev pub tails-μ-loop : tails-lts.MeasureT-loop
 tails-μ-loop t₀ s at d slot p₀ m₀ t p m = length s - p
 
 abbrev pub args-calls : ℕ → args-lts.Claims
-args-calls t =
-    (cond-below t, cond.Post, start-reads.Asked, start-reads.Learnt, behind-reads.Asked, behind-reads.Learnt, more-below t, more.Post, expect-reads.Asked, expect-reads.Learnt)
+args-calls t = (
+  cond-below t,
+  cond.Post,
+  start-reads.Asked,
+  start-reads.Learnt,
+  behind-reads.Asked,
+  behind-reads.Learnt,
+  more-below t,
+  more.Post,
+  expect-reads.Asked,
+  expect-reads.Learnt,
+)
 
 abbrev pub arms-calls : ℕ → arms-lts.Claims
-arms-calls t =
-    (cond-below t, cond.Post, colon-reads.Asked, colon-reads.Learnt, start-reads.Asked, start-reads.Learnt, behind-reads.Asked, behind-reads.Learnt)
+arms-calls t = (
+  cond-below t,
+  cond.Post,
+  colon-reads.Asked,
+  colon-reads.Learnt,
+  start-reads.Asked,
+  start-reads.Learnt,
+  behind-reads.Asked,
+  behind-reads.Learnt,
+)
 
 abbrev pub attr-calls : ℕ → attr-lts.Claims
-attr-calls t =
-    (byte-reads.Asked, byte-reads.Learnt, pass-reads.Asked, pass-reads.Learnt, spread-below t, spread.Post, start-reads.Asked, start-reads.Learnt, inside-reads.Asked, inside-reads.Learnt, in-attr-below t, in-attr.Post, put-plain-reads.Asked, put-plain-reads.Learnt)
+attr-calls t = (
+  byte-reads.Asked,
+  byte-reads.Learnt,
+  pass-reads.Asked,
+  pass-reads.Learnt,
+  spread-below t,
+  spread.Post,
+  start-reads.Asked,
+  start-reads.Learnt,
+  inside-reads.Asked,
+  inside-reads.Learnt,
+  in-attr-below t,
+  in-attr.Post,
+  put-plain-reads.Asked,
+  put-plain-reads.Learnt,
+)
 
 abbrev pub attrs-calls : ℕ → attrs-lts.Claims
-attrs-calls t =
-    (attribute-at-reads.Asked, attribute-at-reads.Learnt, start-reads.Asked, start-reads.Learnt, behind-reads.Asked, behind-reads.Learnt, attr-below t, attr.Post)
+attrs-calls t = (
+  attribute-at-reads.Asked,
+  attribute-at-reads.Learnt,
+  start-reads.Asked,
+  start-reads.Learnt,
+  behind-reads.Asked,
+  behind-reads.Learnt,
+  attr-below t,
+  attr.Post,
+)
 
 abbrev pub call-calls : ℕ → call-lts.Claims
 call-calls t =
     (pass-reads.Asked, pass-reads.Learnt, byte-reads.Asked, byte-reads.Learnt, args-below t, args.Post)
 
 abbrev pub child-calls : ℕ → child-lts.Claims
-child-calls t =
-    (byte-reads.Asked, byte-reads.Learnt, in-text-reads.Asked, in-text-reads.Learnt, text-reads.Asked, text-reads.Learnt, pass-reads.Asked, pass-reads.Learnt, elem-below t, elem.Post, empty-braces-reads.Asked, empty-braces-reads.Learnt, spread-below t, spread.Post, held-below t, held.Post)
+child-calls t = (
+  byte-reads.Asked,
+  byte-reads.Learnt,
+  in-text-reads.Asked,
+  in-text-reads.Learnt,
+  text-reads.Asked,
+  text-reads.Learnt,
+  pass-reads.Asked,
+  pass-reads.Learnt,
+  elem-below t,
+  elem.Post,
+  empty-braces-reads.Asked,
+  empty-braces-reads.Learnt,
+  spread-below t,
+  spread.Post,
+  held-below t,
+  held.Post,
+)
 
 abbrev pub children-calls : ℕ → children-lts.Claims
 children-calls t =
@@ -500,40 +556,116 @@ choice-calls t =
     (two-at-reads.Asked, two-at-reads.Learnt, pass-reads.Asked, pass-reads.Learnt, arms-below t, arms.Post)
 
 abbrev pub cond-calls : ℕ → cond-lts.Claims
-cond-calls t =
-    (either-below t, either.Post, skip-blanks-reads.Asked, skip-blanks-reads.Learnt, byte-reads.Asked, byte-reads.Learnt, start-reads.Asked, start-reads.Learnt, behind-reads.Asked, behind-reads.Learnt, choice-below t, choice.Post)
+cond-calls t = (
+  either-below t,
+  either.Post,
+  skip-blanks-reads.Asked,
+  skip-blanks-reads.Learnt,
+  byte-reads.Asked,
+  byte-reads.Learnt,
+  start-reads.Asked,
+  start-reads.Learnt,
+  behind-reads.Asked,
+  behind-reads.Learnt,
+  choice-below t,
+  choice.Post,
+)
 
 abbrev pub content-calls : ℕ → content-lts.Claims
-content-calls t =
-    (start-reads.Asked, start-reads.Learnt, inside-reads.Asked, inside-reads.Learnt, behind-reads.Asked, behind-reads.Learnt, children-below t, children.Post, shut-reads.Asked, shut-reads.Learnt)
+content-calls t = (
+  start-reads.Asked,
+  start-reads.Learnt,
+  inside-reads.Asked,
+  inside-reads.Learnt,
+  behind-reads.Asked,
+  behind-reads.Learnt,
+  children-below t,
+  children.Post,
+  shut-reads.Asked,
+  shut-reads.Learnt,
+)
 
 abbrev pub either-calls : ℕ → either-lts.Claims
-either-calls t =
-    (unary-below t, unary.Post, start-reads.Asked, start-reads.Learnt, behind-reads.Asked, behind-reads.Learnt, joins-below t, joins.Post)
+either-calls t = (
+  unary-below t,
+  unary.Post,
+  start-reads.Asked,
+  start-reads.Learnt,
+  behind-reads.Asked,
+  behind-reads.Learnt,
+  joins-below t,
+  joins.Post,
+)
 
 abbrev pub elem-calls : ℕ → elem-lts.Claims
-elem-calls t =
-    (too-deep-reads.Asked, too-deep-reads.Learnt, byte-reads.Asked, byte-reads.Learnt, frag-below t, frag.Post, named-below t, named.Post)
+elem-calls t = (
+  too-deep-reads.Asked,
+  too-deep-reads.Learnt,
+  byte-reads.Asked,
+  byte-reads.Learnt,
+  frag-below t,
+  frag.Post,
+  named-below t,
+  named.Post,
+)
 
 abbrev pub expr-calls : ℕ → expr-lts.Claims
-expr-calls t =
-    (start-reads.Asked, start-reads.Learnt, inside-reads.Asked, inside-reads.Learnt, cond-below t, cond.Post, put-plain-reads.Asked, put-plain-reads.Learnt)
+expr-calls t = (
+  start-reads.Asked,
+  start-reads.Learnt,
+  inside-reads.Asked,
+  inside-reads.Learnt,
+  cond-below t,
+  cond.Post,
+  put-plain-reads.Asked,
+  put-plain-reads.Learnt,
+)
 
 abbrev pub frag-calls : ℕ → frag-lts.Claims
-frag-calls t =
-    (put-opening-reads.Asked, put-opening-reads.Learnt, start-reads.Asked, start-reads.Learnt, inside-reads.Asked, inside-reads.Learnt, behind-reads.Asked, behind-reads.Learnt, children-below t, children.Post, shut-fragment-reads.Asked, shut-fragment-reads.Learnt)
+frag-calls t = (
+  put-opening-reads.Asked,
+  put-opening-reads.Learnt,
+  start-reads.Asked,
+  start-reads.Learnt,
+  inside-reads.Asked,
+  inside-reads.Learnt,
+  behind-reads.Asked,
+  behind-reads.Learnt,
+  children-below t,
+  children.Post,
+  shut-fragment-reads.Asked,
+  shut-fragment-reads.Learnt,
+)
 
 abbrev pub group-calls : ℕ → group-lts.Claims
 group-calls t =
     (pass-reads.Asked, pass-reads.Learnt, cond-below t, cond.Post, close-by-reads.Asked, close-by-reads.Learnt)
 
 abbrev pub held-calls : ℕ → held-lts.Claims
-held-calls t =
-    (start-reads.Asked, start-reads.Learnt, inside-reads.Asked, inside-reads.Learnt, in-held-below t, in-held.Post, put-plain-reads.Asked, put-plain-reads.Learnt)
+held-calls t = (
+  start-reads.Asked,
+  start-reads.Learnt,
+  inside-reads.Asked,
+  inside-reads.Learnt,
+  in-held-below t,
+  in-held.Post,
+  put-plain-reads.Asked,
+  put-plain-reads.Learnt,
+)
 
 abbrev pub in-attr-calls : ℕ → in-attr-lts.Claims
-in-attr-calls t =
-    (parse-jsx-attribute-name-reads.Asked, parse-jsx-attribute-name-reads.Learnt, assign-reads.Asked, assign-reads.Learnt, start-reads.Asked, start-reads.Learnt, behind-reads.Asked, behind-reads.Learnt, value-below t, value.Post)
+in-attr-calls t = (
+  parse-jsx-attribute-name-reads.Asked,
+  parse-jsx-attribute-name-reads.Learnt,
+  assign-reads.Asked,
+  assign-reads.Learnt,
+  start-reads.Asked,
+  start-reads.Learnt,
+  behind-reads.Asked,
+  behind-reads.Learnt,
+  value-below t,
+  value.Post,
+)
 
 abbrev pub in-held-calls : ℕ → in-held-lts.Claims
 in-held-calls t =
@@ -544,53 +676,171 @@ in-rest-calls t =
     (dots-reads.Asked, dots-reads.Learnt, expr-below t, expr.Post, close-by-reads.Asked, close-by-reads.Learnt)
 
 abbrev pub in-tag-calls : ℕ → in-tag-lts.Claims
-in-tag-calls t =
-    (parse-jsx-element-name-reads.Asked, parse-jsx-element-name-reads.Learnt, refusal-reads.Asked, refusal-reads.Learnt, start-reads.Asked, start-reads.Learnt, behind-reads.Asked, behind-reads.Learnt, attrs-below t, attrs.Post, tag-end-reads.Asked, tag-end-reads.Learnt)
+in-tag-calls t = (
+  parse-jsx-element-name-reads.Asked,
+  parse-jsx-element-name-reads.Learnt,
+  refusal-reads.Asked,
+  refusal-reads.Learnt,
+  start-reads.Asked,
+  start-reads.Learnt,
+  behind-reads.Asked,
+  behind-reads.Learnt,
+  attrs-below t,
+  attrs.Post,
+  tag-end-reads.Asked,
+  tag-end-reads.Learnt,
+)
 
 abbrev pub joins-calls : ℕ → joins-lts.Claims
-joins-calls t =
-    (operator-reads.Asked, operator-reads.Learnt, start-reads.Asked, start-reads.Learnt, behind-reads.Asked, behind-reads.Learnt, unary-below t, unary.Post)
+joins-calls t = (
+  operator-reads.Asked,
+  operator-reads.Learnt,
+  start-reads.Asked,
+  start-reads.Learnt,
+  behind-reads.Asked,
+  behind-reads.Learnt,
+  unary-below t,
+  unary.Post,
+)
 
 abbrev pub lone-calls : ℕ → lone-lts.Claims
 lone-calls t =
     (pass-reads.Asked, pass-reads.Learnt, elem-below t, elem.Post, no-sibling-reads.Asked, no-sibling-reads.Learnt)
 
 abbrev pub more-calls : ℕ → more-lts.Claims
-more-calls t =
-    (comma-reads.Asked, comma-reads.Learnt, start-reads.Asked, start-reads.Learnt, behind-reads.Asked, behind-reads.Learnt, cond-below t, cond.Post)
+more-calls t = (
+  comma-reads.Asked,
+  comma-reads.Learnt,
+  start-reads.Asked,
+  start-reads.Learnt,
+  behind-reads.Asked,
+  behind-reads.Learnt,
+  cond-below t,
+  cond.Post,
+)
 
 abbrev pub named-calls : ℕ → named-lts.Claims
-named-calls t =
-    (start-reads.Asked, start-reads.Learnt, inside-reads.Asked, inside-reads.Learnt, in-tag-below t, in-tag.Post, plain-reads.Asked, plain-reads.Learnt, put-opening-reads.Asked, put-opening-reads.Learnt, put-plain-reads.Asked, put-plain-reads.Learnt, content-below t, content.Post)
+named-calls t = (
+  start-reads.Asked,
+  start-reads.Learnt,
+  inside-reads.Asked,
+  inside-reads.Learnt,
+  in-tag-below t,
+  in-tag.Post,
+  plain-reads.Asked,
+  plain-reads.Learnt,
+  put-opening-reads.Asked,
+  put-opening-reads.Learnt,
+  put-plain-reads.Asked,
+  put-plain-reads.Learnt,
+  content-below t,
+  content.Post,
+)
 
 abbrev pub postfix-calls : ℕ → postfix-lts.Claims
-postfix-calls t =
-    (prim-below t, prim.Post, start-reads.Asked, start-reads.Learnt, behind-reads.Asked, behind-reads.Learnt, tails-below t, tails.Post)
+postfix-calls t = (
+  prim-below t,
+  prim.Post,
+  start-reads.Asked,
+  start-reads.Learnt,
+  behind-reads.Asked,
+  behind-reads.Learnt,
+  tails-below t,
+  tails.Post,
+)
 
 abbrev pub prefix-calls : ℕ → prefix-lts.Claims
 prefix-calls t =
     (pass-reads.Asked, pass-reads.Learnt, unary-below t, unary.Post)
 
 abbrev pub prim-calls : ℕ → prim-lts.Claims
-prim-calls t =
-    (byte-reads.Asked, byte-reads.Learnt, opens-name-reads.Asked, opens-name-reads.Learnt, primary-word-reads.Asked, primary-word-reads.Learnt, is-digit-reads.Asked, is-digit-reads.Learnt, read-number-reads.Asked, read-number-reads.Learnt, is-quote-reads.Asked, is-quote-reads.Learnt, read-string-reads.Asked, read-string-reads.Learnt, group-below t, group.Post, unexpected-reads.Asked, unexpected-reads.Learnt)
+prim-calls t = (
+  byte-reads.Asked,
+  byte-reads.Learnt,
+  opens-name-reads.Asked,
+  opens-name-reads.Learnt,
+  primary-word-reads.Asked,
+  primary-word-reads.Learnt,
+  is-digit-reads.Asked,
+  is-digit-reads.Learnt,
+  read-number-reads.Asked,
+  read-number-reads.Learnt,
+  is-quote-reads.Asked,
+  is-quote-reads.Learnt,
+  read-string-reads.Asked,
+  read-string-reads.Learnt,
+  group-below t,
+  group.Post,
+  unexpected-reads.Asked,
+  unexpected-reads.Learnt,
+)
 
 abbrev pub spread-calls : ℕ → spread-lts.Claims
-spread-calls t =
-    (start-reads.Asked, start-reads.Learnt, inside-reads.Asked, inside-reads.Learnt, in-rest-below t, in-rest.Post, put-plain-reads.Asked, put-plain-reads.Learnt)
+spread-calls t = (
+  start-reads.Asked,
+  start-reads.Learnt,
+  inside-reads.Asked,
+  inside-reads.Learnt,
+  in-rest-below t,
+  in-rest.Post,
+  put-plain-reads.Asked,
+  put-plain-reads.Learnt,
+)
 
 abbrev pub tail-calls : ℕ → tail-lts.Claims
-tail-calls t =
-    (byte-reads.Asked, byte-reads.Learnt, dot-word-reads.Asked, dot-word-reads.Learnt, group-below t, group.Post, call-below t, call.Post, unexpected-reads.Asked, unexpected-reads.Learnt)
+tail-calls t = (
+  byte-reads.Asked,
+  byte-reads.Learnt,
+  dot-word-reads.Asked,
+  dot-word-reads.Learnt,
+  group-below t,
+  group.Post,
+  call-below t,
+  call.Post,
+  unexpected-reads.Asked,
+  unexpected-reads.Learnt,
+)
 
 abbrev pub tails-calls : ℕ → tails-lts.Claims
-tails-calls t =
-    (suffix-reads.Asked, suffix-reads.Learnt, start-reads.Asked, start-reads.Learnt, behind-reads.Asked, behind-reads.Learnt, tail-below t, tail.Post)
+tails-calls t = (
+  suffix-reads.Asked,
+  suffix-reads.Learnt,
+  start-reads.Asked,
+  start-reads.Learnt,
+  behind-reads.Asked,
+  behind-reads.Learnt,
+  tail-below t,
+  tail.Post,
+)
 
 abbrev pub unary-calls : ℕ → unary-lts.Claims
-unary-calls t =
-    (byte-reads.Asked, byte-reads.Learnt, prefix-below t, prefix.Post, two-at-reads.Asked, two-at-reads.Learnt, lone-below t, lone.Post, postfix-below t, postfix.Post)
+unary-calls t = (
+  byte-reads.Asked,
+  byte-reads.Learnt,
+  prefix-below t,
+  prefix.Post,
+  two-at-reads.Asked,
+  two-at-reads.Learnt,
+  lone-below t,
+  lone.Post,
+  postfix-below t,
+  postfix.Post,
+)
 
 abbrev pub value-calls : ℕ → value-lts.Claims
-value-calls t =
-    (byte-reads.Asked, byte-reads.Learnt, is-quote-reads.Asked, is-quote-reads.Learnt, quoted-value-reads.Asked, quoted-value-reads.Learnt, pass-reads.Asked, pass-reads.Learnt, held-below t, held.Post, lone-below t, lone.Post, unexpected-reads.Asked, unexpected-reads.Learnt)
+value-calls t = (
+  byte-reads.Asked,
+  byte-reads.Learnt,
+  is-quote-reads.Asked,
+  is-quote-reads.Learnt,
+  quoted-value-reads.Asked,
+  quoted-value-reads.Learnt,
+  pass-reads.Asked,
+  pass-reads.Learnt,
+  held-below t,
+  held.Post,
+  lone-below t,
+  lone.Post,
+  unexpected-reads.Asked,
+  unexpected-reads.Learnt,
+)
