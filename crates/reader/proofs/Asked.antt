@@ -276,40 +276,37 @@ module _ {s : List ℕ} {at : ℕ} {q : Slot} (room : Room 3 s at q) {a : ℕ} (
   unfolding plain
   tag-far = l .made .of .far z m (ap plain h)
 
+  -- The tag has two bytes at least for its own two records, and ends within the input.
+  tag-wide : 2 * at + (m + 2) ≤ 2 * z
+  tag-wide =
+      let far = tag-far in
+      let fp = pa .far in
+      omega arith
+
+  tag-ends : z ≤ 1_048_576
+  tag-ends =
+      let far = tag-far in
+      let short = room .short in
+      omega arith
+
   -- The words of its opening tag are numbers,
   pub tag-words : {q₃ : Slot} {x y w : ℕ} → q₃ ≡ q → x ≡ at → y ≡ z → w ≡ m
       → Words (slotInside q₃) Kind.openingTag x y 0 w
   tag-words f₁ f₂ f₃ f₄ =
-      let far = tag-far in
-      let fp = pa .far in
-      let few = room .few in
-      let short = room .short in
-      let held = room .held in
-      rw (f₁, f₂, f₃, f₄) (omega arith)
+      rw (f₁, f₂, f₃, f₄) (omega (arith, tag-wide, tag-ends, room .few, room .held))
 
   -- and those of its own record.
   pub single-words : {q₃ : Slot} {x y w : ℕ} → q₃ ≡ q → x ≡ at → y ≡ z → w ≡ m + 1 → Words q₃ Kind.element x y 0 w
   single-words f₁ f₂ f₃ f₄ =
-      let far = tag-far in
-      let fp = pa .far in
-      let few = room .few in
-      let short = room .short in
-      let held = room .held in
-      rw (f₁, f₂, f₃, f₄) (omega arith)
+      rw (f₁, f₂, f₃, f₄) (omega (arith, tag-wide, tag-ends, room .few, room .held))
 
   -- So are the counts of records.
   pub tag-one-more : {y : ℕ} → y ≡ m → Fits w64 (y + 1)
-  tag-one-more f =
-      let far = tag-far in
-      let short = room .short in
-      omega arith
+  tag-one-more f = omega (arith, tag-wide, tag-ends)
 
   -- With the element there is one more.
   pub tag-two-more : {y : ℕ} → y ≡ m → Fits w64 (y + 2)
-  tag-two-more f =
-      let far = tag-far in
-      let short = room .short in
-      omega arith
+  tag-two-more f = omega (arith, tag-wide, tag-ends)
 
   -- The name was read.
   pub tag-opening : {u : List ℕ} {o : Opened} → u ≡ s → o ≡ record { at = at; start = a; end = e; count = k }

@@ -374,75 +374,52 @@ module _ (d : ℕ) (s : List ℕ) (at : ℕ) where
       ∙ L.seq-under s blanks ((expect "=" ⨾ blanks) ⨾ value (within d)) (expect "=" ⨾ blanks ⨾ value (within d)) at
       (λ q. seq-assoc s F (expect "=") blanks (value (within d)) 0 q))
 
-  -- Behind a name: a value follows the `=`,
+  -- Behind a name the leaf and the rule go by the same byte: a `=`, none, or a refusal on the way to it.
+  initial-by : (P : Answer → Answer → Type 0)
+      → P (readAt s (blanks ⨾ expect "=" ⨾ blanks) at) (readAt s (blanks ⨾ expect "=" ⨾ blanks ⨾ value (within d)) at)
+      → P (got false nil at) (got true nil at)
+      → ((n a b c e : ℕ) → P (trouble n a b c e) (trouble n a b c e))
+      → P (readAt s assigned at) (readAt s (initializer (within d)) at)
+  unfolding assigned initializer parse
+  initial-by P there absent fails = by (readAt s blanks at)
+    where
+      by : (x : Answer) → P
+          (andThen x (λ a u q. pick (is "=" (byteAt s q))
+          (readAt s (blanks ⨾ expect "=" ⨾ blanks) at) (got false nil at)))
+          (andThen x (λ a u q. pick (is "=" (byteAt s q))
+          (readAt s (blanks ⨾ expect "=" ⨾ blanks ⨾ value (within d)) at) (got true nil at)))
+      by (got a u q) = go (is "=" (byteAt s q))
+        where
+          go : (c : Bool) → P (pick c (readAt s (blanks ⨾ expect "=" ⨾ blanks) at) (got false nil at))
+              (pick c (readAt s (blanks ⨾ expect "=" ⨾ blanks ⨾ value (within d)) at) (got true nil at))
+          go true = there
+          go false = absent
+      by (trouble n a b c e) = fails n a b c e
+
+  -- A value follows the `=`,
   initial-goes : {o : Forest} {p : ℕ} → readAt s assigned at ≡ got true o p
       → readAt s (initializer (within d)) at ≡ behind o (readAt s (value (within d)) p)
-  unfolding assigned initializer parse
-  initial-goes {o} {p} e = by (readAt s blanks at) e
-    where
-      by : (x : Answer)
-          → andThen x
-          (λ a u q. pick (is "=" (byteAt s q)) (readAt s (blanks ⨾ expect "=" ⨾ blanks) at) (got false nil at))
-          ≡ got true o p
-          → andThen x (λ a u q. pick (is "=" (byteAt s q))
-          (readAt s (blanks ⨾ expect "=" ⨾ blanks ⨾ value (within d)) at) (got true nil at))
-          ≡ behind o (readAt s (value (within d)) p)
-      by (got a u q) f = go (is "=" (byteAt s q)) f
-        where
-          go : (c : Bool)
-              → pick c (readAt s (blanks ⨾ expect "=" ⨾ blanks) at) (got false nil at) ≡ got true o p
-              → pick c (readAt s (blanks ⨾ expect "=" ⨾ blanks ⨾ value (within d)) at) (got true nil at)
-              ≡ behind o (readAt s (value (within d)) p)
-          go true g = value-cut ∙ Lex.seq-is s (suc (length s)) 0 at (blanks ⨾ expect "=" ⨾ blanks) (value (within d)) g
-          go false g = never (got-same g .0)
-      by (trouble a b c e g) f = trouble-got f
+  initial-goes {o} {p} e =
+      initial-by (λ x y. x ≡ got true o p → y ≡ behind o (readAt s (value (within d)) p))
+      (λ g. value-cut ∙ Lex.seq-is s (suc (length s)) 0 at (blanks ⨾ expect "=" ⨾ blanks) (value (within d)) g)
+      (λ g. never (got-same g .0)) (λ n a b c f g. trouble-got g) e
 
   -- or nothing does,
   initial-stops : {o : Forest} {p : ℕ} → readAt s assigned at ≡ got false o p
       → readAt s (initializer (within d)) at ≡ got true nil at
-  unfolding assigned initializer parse
-  initial-stops {o} {p} e = by (readAt s blanks at) e
-    where
-      by : (x : Answer)
-          → andThen x
-          (λ a u q. pick (is "=" (byteAt s q)) (readAt s (blanks ⨾ expect "=" ⨾ blanks) at) (got false nil at))
-          ≡ got false o p
-          → andThen x (λ a u q. pick (is "=" (byteAt s q))
-          (readAt s (blanks ⨾ expect "=" ⨾ blanks ⨾ value (within d)) at) (got true nil at))
-          ≡ got true nil at
-      by (got a u q) f = go (is "=" (byteAt s q)) f
-        where
-          go : (c : Bool)
-              → pick c (readAt s (blanks ⨾ expect "=" ⨾ blanks) at) (got false nil at) ≡ got false o p
-              → pick c (readAt s (blanks ⨾ expect "=" ⨾ blanks ⨾ value (within d)) at) (got true nil at)
-              ≡ got true nil at
-          go true g =
-              never (got-same (sym g ∙ going s (suc (length s)) (blanks ⨾ expect "=" ⨾ blanks) 0 at assigned-goes g) .0)
-          go false g = refl
-      by (trouble a b c e g) f = trouble-got f
+  initial-stops {o} {p} e =
+      initial-by (λ x y. x ≡ got false o p → y ≡ got true nil at)
+      (λ g. never
+      (got-same (sym g ∙ going s (suc (length s)) (blanks ⨾ expect "=" ⨾ blanks) 0 at assigned-goes g) .0))
+      (λ g. refl) (λ n a b c f g. trouble-got g) e
 
   -- or it refuses.
   initial-no : {n a b c e : ℕ} → readAt s assigned at ≡ trouble n a b c e
       → readAt s (initializer (within d)) at ≡ trouble n a b c e
-  unfolding assigned initializer parse
-  initial-no {n} {a} {b} {c} {e} f = by (readAt s blanks at) f
-    where
-      by : (x : Answer)
-          → andThen x
-          (λ a u q. pick (is "=" (byteAt s q)) (readAt s (blanks ⨾ expect "=" ⨾ blanks) at) (got false nil at))
-          ≡ trouble n a b c e
-          → andThen x (λ a u q. pick (is "=" (byteAt s q))
-          (readAt s (blanks ⨾ expect "=" ⨾ blanks ⨾ value (within d)) at) (got true nil at))
-          ≡ trouble n a b c e
-      by (got v u q) f = go (is "=" (byteAt s q)) f
-        where
-          go : (y : Bool)
-              → pick y (readAt s (blanks ⨾ expect "=" ⨾ blanks) at) (got false nil at) ≡ trouble n a b c e
-              → pick y (readAt s (blanks ⨾ expect "=" ⨾ blanks ⨾ value (within d)) at) (got true nil at)
-              ≡ trouble n a b c e
-          go true g = value-cut ∙ seq-no s (suc (length s)) (blanks ⨾ expect "=" ⨾ blanks) 0 at g (value (within d))
-          go false g = trouble-got (sym g)
-      by (trouble v w x y z) f = f
+  initial-no {n} {a} {b} {c} {e} f =
+      initial-by (λ x y. x ≡ trouble n a b c e → y ≡ trouble n a b c e)
+      (λ g. value-cut ∙ seq-no s (suc (length s)) (blanks ⨾ expect "=" ⨾ blanks) 0 at g (value (within d)))
+      (λ g. trouble-got (sym g)) (λ n₁ a₁ b₁ c₁ e₁ g. g) f
 
 module _ (d : ℕ) {s : List ℕ} {at : ℕ} {q : Slot} {r : Ans} {t t₁ : List ℕ}
     (l : Made r s attributeName at 1 q 0 t t₁) where

@@ -29,20 +29,22 @@ use Rattle.reader.proofs.Steps.{Loops, Turns, Splits, Begins, begins}
 
 -- ---- a rule behind a choice
 
+-- A rule behind two others stands behind the one that is picked.
+picked : (s : List ℕ) (p : ℕ) (A B C D R : Rule)
+    → readAt s C p ≡ readAt s (A ⨾ R) p
+    → readAt s D p ≡ readAt s (B ⨾ R) p
+    → (c : Bool) → pick c (readAt s C p) (readAt s D p) ≡ Next (pick c (readAt s A p) (readAt s B p)) (readAt s R)
+unfolding parse
+picked s p A B C D R x y true = x
+picked s p A B C D R x y false = y
+
 -- A rule behind a choice by the byte here stands behind each side.
 pub when-seq : (s : List ℕ) (p : ℕ) (f : Test) (A B C D R : Rule)
     → readAt s C p ≡ readAt s (A ⨾ R) p
     → readAt s D p ≡ readAt s (B ⨾ R) p
     → readAt s (when f C D) p ≡ readAt s (when f A B ⨾ R) p
 unfolding parse
-when-seq s p f A B C D R x y = go (f (byteAt s p))
-  where
-    next : Answer → Answer
-    next z = Next z (readAt s R)
-
-    go : (c : Bool) → pick c (readAt s C p) (readAt s D p) ≡ next (pick c (readAt s A p) (readAt s B p))
-    go true = x
-    go false = y
+when-seq s p f A B C D R x y = picked s p A B C D R x y (f (byteAt s p))
 
 -- So does a rule behind a choice by the byte behind what is looked over.
 pub after-seq : (s : List ℕ) (p : ℕ) (l : Rule) (f : Test) (A B C D R : Rule)
@@ -52,17 +54,10 @@ pub after-seq : (s : List ℕ) (p : ℕ) (l : Rule) (f : Test) (A B C D R : Rule
 unfolding parse
 after-seq s p l f A B C D R x y = by (readAt s l p)
   where
-    next : Answer → Answer
-    next z = Next z (readAt s R)
-
-    go : (c : Bool) → pick c (readAt s C p) (readAt s D p) ≡ next (pick c (readAt s A p) (readAt s B p))
-    go true = x
-    go false = y
-
     by : (z : Answer)
         → andThen z (λ a o q. pick (f (byteAt s q)) (readAt s C p) (readAt s D p))
-        ≡ next (andThen z (λ a o q. pick (f (byteAt s q)) (readAt s A p) (readAt s B p)))
-    by (got a o q) = go (f (byteAt s q))
+        ≡ Next (andThen z (λ a o q. pick (f (byteAt s q)) (readAt s A p) (readAt s B p))) (readAt s R)
+    by (got a o q) = picked s p A B C D R x y (f (byteAt s q))
     by (trouble n a b c d) = refl
 
 -- Nothing is read behind a `stop`.
