@@ -1,6 +1,6 @@
--- The table of refused words has the words that the definition refuses, and no other.
+-- A good list has the refused words of its length, and no other.
 pub mod Words
--- The search of that table, and a name as a primary.
+-- The search of a list, and a name as a primary.
 pub mod RefusedSteps
 -- What calls, sums and loops ask: one set.
 pub mod Asked

@@ -1,12 +1,10 @@
--- The refused words, step by step: the search of the table, and a name as a primary.
-use mathlib.Core.Path.{_≡_, refl, sym, _∙_}
+-- The refused words, step by step: the search of a list, and a name as a primary.
+use mathlib.Core.Path.{_≡_, refl, sym, ap, _∙_}
 use mathlib.Core.Bool.{Bool, true, false}
 use mathlib.Core.List.{List}
-use Prim.Native.Nat.{ℕ, suc, _+_, _-_, _*_, _^_, _≤_, _<_}
+use Prim.Native.Nat.{ℕ, suc, _+_, _-_, _*_, _≤_, _<_}
 use native.Mathlib.Omega.{arith}
-use mir.Syntax.{w8}
-use mir.Val.{Fits}
-use lib.ListN.{length, getD}
+use lib.ListN.{length}
 use Rattle.rules.specs.Forest.{Forest, nil, _⋈_}
 use Rattle.rules.specs.Parse.{got, trouble, parse, readAt}
 use Rattle.rules.proofs.Mark.{any-mark}
@@ -18,58 +16,46 @@ use Rattle.lex.specs.Contract.{nothing, Leaf, Past, bytesFrom}
 use Rattle.lex.specs.declared.Ans.the-variants.{Got, No}
 use Rattle.lex.proofs.Bare.{bare, direct-got}
 use Rattle.lex.proofs.Laws.{leaf-stop, leaf-done}
-use Rattle.refused.specs.Table.{cells, good}
-use Rattle.refused.proofs.Words.{among-more, among-found, among-end, good-lengths, refused-start, refused-long, refused-brief}
+use Rattle.refused.specs.WordList.{cells, good}
+use Rattle.refused.proofs.Words.{among-more, among-found, among-end, refused-start, refused-other}
 
--- ---- the search of the table
+-- ---- the search of a list
 
 -- The first i of all words of n bytes were compared, and the next begins at p.
 pub record Seen (t s : List ℕ) (a n all p i : ℕ) : Type 0 where
-  pub small : all < 256
+  pub small : all ≤ 9
   pub fewer : i ≤ all
-  pub near : p < 256 + 11 * i
+  pub near : p ≤ 11 * i
   pub so : refusedWord (bytesFrom s a n) ≡ among (cells t p n (all - i)) (bytesFrom s a n)
 
--- What it says of a length is a byte.
-pub byte-fits : (l : List ℕ) (n : ℕ) → ((j : ℕ) → Fits w8 (getD l j 0)) → getD l n 0 < 2 ^ 64
-byte-fits l n x = let f = x n .fits in omega arith
-
-module _ (t f c : List ℕ) (h : good t f c ≡ true) (n : ℕ) (k : n ≤ 10) where
-  -- It says where the words of n bytes begin.
-  pub first-has : n < length f
-  first-has = let l = good-lengths t f c h in omega arith
-
-  -- It says how many they are.
-  pub count-has : n < length c
-  count-has = let l = good-lengths t f c h in omega arith
-
-  -- Before the first word.
-  pub table-begins : {s : List ℕ} {a all p : ℕ} → ((j : ℕ) → Fits w8 (getD c j 0)) → ((j : ℕ) → Fits w8 (getD f j 0))
-      → all ≡ getD c n 0 → p ≡ getD f n 0 → Seen t s a n all p 0
-  table-begins {s} {a} x y e g =
-      let x₁ = x n .fits in
-      let y₁ = y n .fits in
-      rw (e, g)
-      record { small = omega arith; fewer = omega arith; near = omega arith; so = refused-start t f c h s a n k }
+-- Before the first word.
+pub list-begins : {t s : List ℕ} {a n all : ℕ} → good t n all ≡ true → all ≤ 9 → Seen t s a n all 0 0
+list-begins {t} {s} {a} {n} {all} h k =
+    record { small = k; fewer = omega arith; near = omega arith; so = refused-start t n all h s a }
 
 module _ {t s : List ℕ} {a n all p i : ℕ} (v : Seen t s a n all p i) where
   -- No word is left.
-  pub table-ends : all ≤ i → false ≡ refusedWord (bytesFrom s a n)
-  table-ends h = sym (among-end t (bytesFrom s a n) p n all i (v .so) h)
+  pub list-ends : all ≤ i → false ≡ refusedWord (bytesFrom s a n)
+  list-ends h = sym (among-end t (bytesFrom s a n) p n all i (v .so) h)
 
   module _ (h : i < all) {r : Bool} (e : r ≡ same (bytesFrom t p n) (bytesFrom s a n)) where
     -- This word.
-    pub table-finds : r ≡ true → true ≡ refusedWord (bytesFrom s a n)
-    table-finds x = sym (among-found t (bytesFrom s a n) p n all i (v .so) h (sym e ∙ x))
+    pub list-finds : r ≡ true → true ≡ refusedWord (bytesFrom s a n)
+    list-finds x = sym (among-found t (bytesFrom s a n) p n all i (v .so) h (sym e ∙ x))
 
     -- Another word.
-    pub table-goes-on : r ≡ false → n ≤ 10 → Seen t s a n all (p + n + 1) (i + 1)
-    table-goes-on x k = record {
+    pub list-goes-on : r ≡ false → n ≤ 10 → Seen t s a n all (p + n + 1) (i + 1)
+    list-goes-on x k = record {
       small = v .small;
       fewer = omega arith;
       near = omega arith;
       so = among-more t (bytesFrom s a n) p n all i (v .so) h (sym e ∙ x);
     }
+
+-- The list of one length says it of bytes of that length.
+pub listed : (s : List ℕ) (a k n : ℕ) {m : ℕ} {r : Bool} → r ≡ refusedWord (bytesFrom s a k) → m ≡ k → m ≡ n
+    → r ≡ refusedWord (bytesFrom s a n)
+listed s a k n e f g = e ∙ ap (λ (x : ℕ). refusedWord (bytesFrom s a x)) (sym f ∙ g)
 
 -- ---- a name as a primary
 
@@ -95,12 +81,12 @@ module _
         go w h = rw (any-mark s (suc (length s)) word 0 at at w, direct-got s (suc (length s)) word 0 at refl w, h)
 
 pub ruleset refused-steps = (
-  refused-long,
-  refused-brief,
-  table-begins,
-  table-ends,
-  table-finds,
-  table-goes-on,
+  refused-other,
+  listed,
+  list-begins,
+  list-ends,
+  list-finds,
+  list-goes-on,
   primary-stops,
   primary-is,
 )

@@ -1,20 +1,19 @@
--- The table of refused words has the words that the definition refuses, and no other.
+-- A good list of refused words has the words that the definition refuses, and no other.
 use mathlib.Core.Path.{_≡_, refl, sym, ap, subst, _∙_}
 use mathlib.Core.Bool.{Bool, true, false}
 use mathlib.Core.List.{List, [], _∷_}
-use Prim.Native.Nat.{ℕ, zero, suc, _+_, _-_, _≤_, _<_}
+use Prim.Native.Nat.{ℕ, suc, _+_, _-_, _≤_, _<_}
 use native.Mathlib.Omega.{arith}
-use native.Mathlib.Decide.{decLt}
-use lib.ListN.{length, getD}
+use lib.ListN.{length}
 use lib.Dec.{eqb, leb}
-use borrow.Author.Tests.{eqb-true, leb-true}
+use borrow.Author.Tests.{eq-eqb, eqb-true, leb-true}
 use Rattle.rules.specs.Parse.{pick}
 use Rattle.rules.proofs.Run.{never, both}
 use Rattle.jsx.specs.Name.{same}
 use Rattle.jsx.specs.Word.{onFirst, cut, words, among, reserved, spared, strict, refusedWord}
 use Rattle.lex.proofs.SameBytes.{length-part}
 use Rattle.lex.specs.Contract.{bytesFrom}
-use Rattle.refused.specs.Table.{cells, each, upTo, wordsOf, covered, sound, complete, good}
+use Rattle.refused.specs.WordList.{cells, each, covered, good}
 
 -- ---- a word among some of its length
 
@@ -52,15 +51,6 @@ each-at P (v ∷ vs) w h g = go (same v w) refl (each-at P vs w (both (P v) (eac
     go true e k f = subst (λ (x : List ℕ). P x ≡ true) (same-is v w e) (both (P v) (each P vs) h .0)
     go false e k f = k f
 
-up-at : (P : ℕ → Bool) (k n : ℕ) → upTo P k ≡ true → n < k → P n ≡ true
-unfolding upTo
-up-at P zero n h i = absurd (omega arith)
-up-at P (suc k) n h i = go (up-at P k n (both (P k) (upTo P k) h .1)) (decLt n k)
-  where
-    go : (n < k → P n ≡ true) → Dec (n < k) → P n ≡ true
-    go f (yes j) = f j
-    go f (no j) = let e : k ≡ n = omega arith in subst (λ (x : ℕ). P x ≡ true) e (both (P k) (upTo P k) h .0)
-
 -- A word that is in neither list is not refused.
 free : (w : List ℕ) → (among reserved w ≡ true → among spared w ≡ false → ⊥)
     → (among strict w ≡ true → among spared w ≡ false → ⊥) → refusedWord w ≡ false
@@ -75,94 +65,75 @@ free w f g = go (among spared w) (among reserved w) (among strict w) f g
 
 -- ---- a refused word has 2 to 10 bytes
 
--- What all of them have and these bytes have not: they are none.
-refused-never : (P : List ℕ → Bool) (w : List ℕ) → each P reserved ≡ true → each P strict ≡ true → (P w ≡ true → ⊥)
-    → false ≡ refusedWord w
-refused-never P w r t n =
-    sym (free w (λ e d. n (each-at P reserved w r e)) (λ e d. n (each-at P strict w t e)))
+fitting : List ℕ → Bool
+fitting w = pick (leb 2 (length w)) (leb (length w) 10) false
 
-short : List ℕ → Bool
-short w = leb (length w) 10
+reserved-fits : each fitting reserved ≡ true
+unfolding each fitting reserved words cut onFirst
+reserved-fits = refl
 
-reserved-short : each short reserved ≡ true
-unfolding each short reserved words cut onFirst
-reserved-short = refl
+strict-fits : each fitting strict ≡ true
+unfolding each fitting strict words cut onFirst
+strict-fits = refl
 
-strict-short : each short strict ≡ true
-unfolding each short strict words cut onFirst
-strict-short = refl
+past-six : (n : ℕ) → 2 ≤ n → (n ≡ 2 → ⊥) → (n ≡ 3 → ⊥) → (n ≡ 4 → ⊥) → (n ≡ 5 → ⊥) → (n ≡ 6 → ⊥) → 7 ≤ n
+past-six n h h₂ h₃ h₄ h₅ h₆ = omega arith
 
--- So more bytes are none,
-pub refused-long : (s : List ℕ) (a n : ℕ) → 10 < n → false ≡ refusedWord (bytesFrom s a n)
-unfolding short
-refused-long s a n h = refused-never short (bytesFrom s a n) reserved-short strict-short
-    (λ e. let k = leb-true (length (bytesFrom s a n)) 10 e in absurd (omega (arith, length-part s a n)))
+past-ten : (n : ℕ) → 7 ≤ n → n ≤ 10 → (n ≡ 7 → ⊥) → (n ≡ 8 → ⊥) → (n ≡ 9 → ⊥) → (n ≡ 10 → ⊥) → ⊥
+past-ten n h k h₇ h₈ h₉ h₁₀ = omega arith
 
-wide : List ℕ → Bool
-wide w = leb 2 (length w)
+-- So bytes of another length are none.
+pub refused-other : (s : List ℕ) (a n : ℕ)
+    → (n ≡ 2 → ⊥) → (n ≡ 3 → ⊥) → (n ≡ 4 → ⊥) → (n ≡ 5 → ⊥) → (n ≡ 6 → ⊥) → (n ≡ 7 → ⊥) → (n ≡ 8 → ⊥)
+    → (n ≡ 9 → ⊥) → (n ≡ 10 → ⊥) → false ≡ refusedWord (bytesFrom s a n)
+unfolding fitting
+refused-other s a n h₂ h₃ h₄ h₅ h₆ h₇ h₈ h₉ h₁₀ =
+    sym (free w (λ y d. other (each-at fitting reserved w reserved-fits y))
+    (λ y d. other (each-at fitting strict w strict-fits y)))
+  where
+    w : List ℕ
+    w = bytesFrom s a n
 
-reserved-wide : each wide reserved ≡ true
-unfolding each wide reserved words cut onFirst
-reserved-wide = refl
+    outside : length w ≡ n → 2 ≤ length w → length w ≤ 10 → ⊥
+    outside e x y =
+        let x′ = past-six n (subst (λ (m : ℕ). 2 ≤ m) e x) h₂ h₃ h₄ h₅ h₆ in
+        past-ten n x′ (subst (λ (m : ℕ). m ≤ 10) e y) h₇ h₈ h₉ h₁₀
 
-strict-wide : each wide strict ≡ true
-unfolding each wide strict words cut onFirst
-strict-wide = refl
+    other : fitting w ≡ true → ⊥
+    other x =
+        let y = both (leb 2 (length w)) (leb (length w) 10) x in
+        outside (length-part s a n) (leb-true 2 (length w) (y .0)) (leb-true (length w) 10 (y .1))
 
--- and so is one byte.
-pub refused-brief : (s : List ℕ) (a n : ℕ) → n < 2 → false ≡ refusedWord (bytesFrom s a n)
-unfolding wide
-refused-brief s a n h = refused-never wide (bytesFrom s a n) reserved-wide strict-wide
-    (λ e. let k = leb-true 2 (length (bytesFrom s a n)) e in absurd (omega (arith, length-part s a n)))
+-- ---- a good list
 
--- ---- a good table
-
-module _ (t f c : List ℕ) (h : good t f c ≡ true) where
-  halves : (pick (sound t f c) (complete t f c) false ≡ true)
-      × (pick (eqb (length f) 11) (eqb (length c) 11) false ≡ true)
+module _ (t : List ℕ) (n c : ℕ) (h : good t n c ≡ true) where
+  parts : (each refusedWord (cells t 0 n c) ≡ true)
+      × (pick (each (covered t n c) reserved) (each (covered t n c) strict) false ≡ true)
   unfolding good
-  halves = both (pick (sound t f c) (complete t f c) false) (pick (eqb (length f) 11) (eqb (length c) 11) false) h
+  parts =
+      both (each refusedWord (cells t 0 n c)) (pick (each (covered t n c) reserved) (each (covered t n c) strict) false) h
 
-  -- It has a place for each length up to 10.
-  pub good-lengths : (length f ≡ 11) × (length c ≡ 11)
-  good-lengths =
-      let g = both (eqb (length f) 11) (eqb (length c) 11) (halves .1) in
-      (eqb-true (length f) 11 (g .0), eqb-true (length c) 11 (g .1))
+  all-covered : (each (covered t n c) reserved ≡ true) × (each (covered t n c) strict ≡ true)
+  all-covered = both (each (covered t n c) reserved) (each (covered t n c) strict) (parts .1)
 
-  good-rows : (n : ℕ) → n < 11 → each refusedWord (wordsOf t f c n) ≡ true
-  unfolding sound
-  good-rows n i =
-      up-at (λ m. each refusedWord (wordsOf t f c m)) 11 n (both (sound t f c) (complete t f c) (halves .0) .0) i
-
-  good-covered : (each (covered t f c) reserved ≡ true) × (each (covered t f c) strict ≡ true)
-  unfolding complete
-  good-covered =
-      both (each (covered t f c) reserved) (each (covered t f c) strict)
-      (both (sound t f c) (complete t f c) (halves .0) .1)
-
-  -- A word is refused exactly if it stands in the table, among those of its length.
-  refused-covered : (w : List ℕ) → length w < 11 → refusedWord w ≡ among (wordsOf t f c (length w)) w
+  -- A word of n bytes is refused exactly if it is listed.
+  refused-listed : (w : List ℕ) → length w ≡ n → refusedWord w ≡ among (cells t 0 n c) w
   unfolding covered
-  refused-covered w i = go (among (wordsOf t f c (length w)) w) refl
+  refused-listed w i = go (among (cells t 0 n c) w) refl
     where
-      not-covered : among (wordsOf t f c (length w)) w ≡ false
-          → pick (among spared w) true (among (wordsOf t f c (length w)) w) ≡ true → among spared w ≡ false → ⊥
-      not-covered e g d = never (sym (rw (d, e)) ∙ g)
+      not-covered : among (cells t 0 n c) w ≡ false → covered t n c w ≡ true → among spared w ≡ false → ⊥
+      not-covered e g d = never (sym (rw (eq-eqb (length w) n i, d, e)) ∙ g)
 
-      go : (b : Bool) → among (wordsOf t f c (length w)) w ≡ b → refusedWord w ≡ b
-      go true e = each-at refusedWord (wordsOf t f c (length w)) w (good-rows (length w) i) e
+      go : (b : Bool) → among (cells t 0 n c) w ≡ b → refusedWord w ≡ b
+      go true e = each-at refusedWord (cells t 0 n c) w (parts .0) e
       go false e =
           free w
-          (λ y d. not-covered e (each-at (covered t f c) reserved w (good-covered .0) y) d)
-          (λ y d. not-covered e (each-at (covered t f c) strict w (good-covered .1) y) d)
+          (λ y d. not-covered e (each-at (covered t n c) reserved w (all-covered .0) y) d)
+          (λ y d. not-covered e (each-at (covered t n c) strict w (all-covered .1) y) d)
 
-  -- So bytes are a refused word exactly if they are among the words of their length.
-  pub refused-start : (s : List ℕ) (a n : ℕ) → n ≤ 10
-      → refusedWord (bytesFrom s a n) ≡ among (cells t (getD f n 0) n (getD c n 0 - 0)) (bytesFrom s a n)
-  unfolding wordsOf
-  refused-start s a n i =
-      let l = length-part s a n in
-      let z : getD c n 0 ≡ getD c n 0 - 0 = omega arith in
-      refused-covered (bytesFrom s a n) (omega arith)
-      ∙ ap (λ (m : ℕ). among (wordsOf t f c m) (bytesFrom s a n)) l
-      ∙ ap (λ (x : ℕ). among (cells t (getD f n 0) n x) (bytesFrom s a n)) z
+  pub refused-start : (s : List ℕ) (a : ℕ)
+      → refusedWord (bytesFrom s a n) ≡ among (cells t 0 n (c - 0)) (bytesFrom s a n)
+  refused-start s a =
+      let z : c ≡ c - 0 = omega arith in
+      refused-listed (bytesFrom s a n) (length-part s a n)
+      ∙ ap (λ (x : ℕ). among (cells t 0 n x) (bytesFrom s a n)) z

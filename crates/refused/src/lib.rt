@@ -7,36 +7,18 @@ ghost use Rattle.rules.specs.Parse.{byteAt};
 ghost use Rattle.jsx.specs.Name.{opensName};
 ghost use Rattle.jsx.specs.Word.{refusedWord, primaryWord};
 ghost use Rattle.lex.specs.Contract.{Leaf, nothing, bytesFrom};
-ghost use Rattle.refused.specs.Table.{good};
+ghost use Rattle.refused.specs.WordList.{good};
 use lex::Ans;
 use lex::refusal::UNEXPECTED;
 
-// The refused words by their lengths, 2 to 10, with a space behind each.
-const WORDS: [u8; 273] = *b"do if in \
-    for new try var let \
-    case else enum void with \
-    await break catch class const super throw while yield \
-    delete export import return switch typeof static public \
-    default extends finally package private \
-    continue debugger function \
-    interface protected \
-    instanceof implements ";
-
-// Where the words of each length begin among them.
-const FIRST: [u8; 11] = [0, 0, 0, 9, 29, 54, 108, 164, 204, 231, 251];
-
-// How many words have each length.
-const COUNT: [u8; 11] = [0, 0, 3, 5, 5, 9, 8, 5, 3, 2, 2];
-
-// Whether the n bytes from a on in s are a refused word, by a good table.
-fn is_in_table(words: &[u8], first: &[u8], count: &[u8], s: &[u8], a: usize, n: usize) -> bool
-    requires { ⌜ (good (now words) (now first) (now count) ≡ true) × (n ≤ 10) × (a + n ≤ length (now s)) ⌝ }
+// Whether the n bytes from a on in s are a refused word, by a good list of those of n bytes, with a space behind each.
+fn is_listed(words: &[u8], count: usize, s: &[u8], a: usize, n: usize) -> bool
+    requires { ⌜ (good (now words) n count ≡ true) × (count ≤ 9) × (n ≤ 10) × (a + n ≤ length (now s)) ⌝ }
     ensures { λ r. ⌜ r ≡ refusedWord (bytesFrom (now (s .entry)) a n) ⌝ }
 {
-    let all = count[n] as usize;
-    let mut p = first[n] as usize;
+    let mut p = 0;
     let mut i = 0;
-    while i < all {
+    while i < count {
         if lex::same_at(words, p, s, a, n) {
             return true;
         }
@@ -46,19 +28,35 @@ fn is_in_table(words: &[u8], first: &[u8], count: &[u8], s: &[u8], a: usize, n: 
     false
 }
 
-// Whether the bytes from a to b are a refused word.
+// Whether the bytes from a to b are a refused word: these have 2 to 10 bytes.
 pub fn is_refused_word(s: &[u8], a: usize, b: usize) -> bool
     requires { ⌜ (a ≤ b) × (b ≤ length (now s)) ⌝ }
     ensures { λ r. ⌜ r ≡ refusedWord (bytesFrom (now (s .entry)) a (b - a)) ⌝ }
 {
-    let n = b - a;
-    if n < 2 {
-        return false;
+    match b - a {
+        2 => is_listed(b"do if in ", 3, s, a, 2),
+        3 => is_listed(b"for new try var let ", 5, s, a, 3),
+        4 => is_listed(b"case else enum void with ", 5, s, a, 4),
+        5 => is_listed(
+            b"await break catch class const super throw while yield ",
+            9,
+            s,
+            a,
+            5,
+        ),
+        6 => is_listed(
+            b"delete export import return switch typeof static public ",
+            8,
+            s,
+            a,
+            6,
+        ),
+        7 => is_listed(b"default extends finally package private ", 5, s, a, 7),
+        8 => is_listed(b"continue debugger function ", 3, s, a, 8),
+        9 => is_listed(b"interface protected ", 2, s, a, 9),
+        10 => is_listed(b"instanceof implements ", 2, s, a, 10),
+        _ => false,
     }
-    if 10 < n {
-        return false;
-    }
-    is_in_table(&WORDS, &FIRST, &COUNT, s, a, n)
 }
 
 // A name as a primary, whose first byte was seen; the number is 0. A refused word is 3 at its start.

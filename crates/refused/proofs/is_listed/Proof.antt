@@ -1,27 +1,14 @@
-use Rattle.refused.proofs.Asked.{asked}
 use Prim.Native.Nat.{_-_}
-use Rattle.refused.proofs.RefusedSteps.{Seen}
-use Rattle.refused.proofs.is_in_table.Statement.{statement}
-use Rattle.refused.proofs.is_in_table.Tie as tie
-use Rattle.refused.proofs.RefusedSteps.{refused-steps}
+use Rattle.refused.proofs.Asked.{asked}
+use Rattle.refused.proofs.RefusedSteps.{Seen, refused-steps}
+use Rattle.refused.proofs.is_listed.Statement.{statement}
+use Rattle.refused.proofs.is_listed.Tie as tie
 
 abbrev Inv-loop : tie.InvT-loop
-Inv-loop words first count s a n all p₀ i₀ p i = Seen words s a n all p i
+Inv-loop words count s a n p₀ i₀ p i = Seen words s a n count p i
 
 abbrev μ-loop : tie.MeasureT-loop
-μ-loop words first count s a n all p₀ i₀ p i = all - i
-
-shared-slice-read-all : tie.Need-shared-slice-read-all Inv-loop μ-loop
-shared-slice-read-all c = search asked
-
-cast-all : tie.Need-cast-all Inv-loop μ-loop
-cast-all c = search asked
-
-shared-slice-read-p : tie.Need-shared-slice-read-p Inv-loop μ-loop
-shared-slice-read-p c = search asked
-
-cast-p : tie.Need-cast-p Inv-loop μ-loop
-cast-p c = search asked
+μ-loop words count s a n p₀ i₀ p i = count - i
 
 loop-holds : tie.Need-loop-holds Inv-loop μ-loop
 loop-holds c = search refused-steps
@@ -50,16 +37,12 @@ loop-again c = search refused-steps
 returns-2 : tie.Need-returns-2 Inv-loop μ-loop
 returns-2 c = search refused-steps
 
-pub is-in-table-spec : {M : Type 1} → statement M
-is-in-table-spec =
+pub is-listed-spec : {M : Type 1} → statement M
+is-listed-spec =
     tie.close
     (tie.spec
     Inv-loop
     μ-loop
-    shared-slice-read-all
-    cast-all
-    shared-slice-read-p
-    cast-p
     loop-holds
     same-at-requires
     returns
