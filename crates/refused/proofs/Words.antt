@@ -111,7 +111,8 @@ module _ (t : List ℕ) (n c : ℕ) (h : good t n c ≡ true) where
       × (pick (each (covered t n c) reserved) (each (covered t n c) strict) false ≡ true)
   unfolding good
   parts =
-      both (each refusedWord (cells t 0 n c)) (pick (each (covered t n c) reserved) (each (covered t n c) strict) false) h
+      both (each refusedWord (cells t 0 n c))
+      (pick (each (covered t n c) reserved) (each (covered t n c) strict) false) h
 
   all-covered : (each (covered t n c) reserved ≡ true) × (each (covered t n c) strict ≡ true)
   all-covered = both (each (covered t n c) reserved) (each (covered t n c) strict) (parts .1)
