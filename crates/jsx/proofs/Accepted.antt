@@ -188,7 +188,7 @@ module _ (l : Limits) (reading : ℕ → Rule) (s : List ℕ) where
     -- The read's whole answer, on a table with room.
     pub accepted-read : (t : List ℕ)
         → count u ≤ holds t
-        → read l reading s t ≡ accepted (count u) (written (records 0 0 missing u) t)
+        → read l reading s t ≡ accepted (count u) (written (records 0 0 missing 0 u) t)
     unfolding read readInto
     accepted-read t h = rw (accepted-answer x .1, le-leb (count u) (holds t) h)
 
@@ -201,7 +201,7 @@ module _ (l : Limits) (reading : ℕ → Rule) (s : List ℕ) where
     rows : rowsRead l reading s ≡ rowsOf u
     unfolding rowsRead accepted written holds
     rows =
-        let n = length-records u 0 0 missing in
+        let n = length-records u 0 0 missing 0 in
         ap (λ (r : Outcome). r .table) (accepted-read table (omega (arith, size)))
         ∙ ap (λ (r : List ℕ). rowsOf u ++ r) (drop-of-length-le table {i = length (rowsOf u)} (omega (arith, size)))
         ∙ append-nil (rowsOf u)

@@ -390,7 +390,7 @@ checked-stays k (trouble m a b c d) y h n e = not-zero m n e
 readInto-stays : (k : ℕ) (t : List ℕ) (x y : Answer) → Deep k x y → NotStuck x → Stays (readInto t) x y
 unfolding readInto accepted refused
 readInto-stays k t (got a u p) y h n e =
-    ap (readInto t) h ∙ (λ i. into (count-deepen k u i) (records-deepen k u 0 0 missing i))
+    ap (readInto t) h ∙ (λ i. into (count-deepen k u i) (records-deepen k u 0 0 missing 0 i))
   where
     into : ℕ → List ℕ → Outcome
     into m rows = pick (leb m (holds t)) (accepted m (written rows t)) (refused tableTooSmall m 0 0 0 t)

@@ -23,7 +23,7 @@ use Rattle.jsx.specs.Table.{missing}
 use Rattle.jsx.specs.Compose.{Accepted, countOf, rowsRead, withDepth, ReadAs, rowsOf, forestOf, textLabel}
 use Rattle.jsx.specs.Compose.{joinedReadings, textsMeet, bytesBetween, replacedBytes, Closed, contentStart}
 use Rattle.jsx.specs.Compose.{contentFirst, contentEnd, contentRows, depthLeft, contentChange, replacedRows}
-use Rattle.jsx.specs.Compose.{pairedRow}
+use Rattle.jsx.specs.Compose.{contentDeeper, pairedRow}
 use Rattle.jsx.specs.Demand3.{BytesStay, AcceptedIsRead, ReadToTheEnd, EveryTable, NumbersTo16, RunsJoin}
 use Rattle.jsx.specs.Demand3.{EmptyRun, RowsFollow, TextsBecomeOne, Stands, OneClosingTag, ContentIsRun}
 use Rattle.jsx.specs.Demand3.{ContentsAreRuns, Replaces, RowsReplaced, RunsDeepen}
@@ -143,7 +143,7 @@ rows-follow l small x y px hx hy h e =
     let m = meeting l small x y px hx hy h e in (
       omega (arith, kx .1, ky .1, k .1, count-apart textLabel (u .0) (v .0) m),
       k .2 ∙ rows-apart l small x y px (u .1) (v .1) h m
-          ∙ (λ i. sym (kx .2) i ++ moved (length x) (sym (kx .1) i) missing missing (sym (ky .2) i)),
+          ∙ (λ i. sym (kx .2) i ++ moved (length x) (sym (kx .1) i) 0 missing missing (sym (ky .2) i)),
     )
 
 -- A text meets a text: they have one row.
@@ -159,7 +159,7 @@ texts-become-one l small x y px hx hy h e =
       omega (arith, kx .1, ky .1, k .1, count-met textLabel (λ d. refl) (u .0) (v .0) m),
       k .2 ∙ rows-met l small x y px (u .1) (v .1) h m
           ∙ (λ i. lastEnds (length x + firstEnd (sym (ky .2) i)) (sym (kx .2) i)
-          ++ moved (length x) (sym (kx .1) i - 1) missing missing (drop rowWords (sym (ky .2) i))),
+          ++ moved (length x) (sym (kx .1) i - 1) 0 missing missing (drop rowWords (sym (ky .2) i))),
     )
 
 -- ---- contents can be replaced
@@ -200,7 +200,7 @@ module _ {reading : ℕ → Rule} (rd : Readable reading) (l : Limits) (small : 
 
   -- The three parts of the table.
   abbrev middle : List ℕ
-  middle = records (bytesBefore (M .spot)) (recordsBefore (M .spot)) j (M .inner)
+  middle = records (bytesBefore (M .spot)) (recordsBefore (M .spot)) j (contentDeeper t j) (M .inner)
 
   were : t ≡ M .rows .ahead ++ (middle ++ M .rows .rest)
   unfolding M
@@ -210,7 +210,7 @@ module _ {reading : ℕ → Rule} (rd : Readable reading) (l : Limits) (small : 
   ahead-size = M .rows .size ∙ ap (λ (n : ℕ). rowWords * n) first-is
 
   middle-size : length middle ≡ rowWords * (c - contentFirst t j)
-  middle-size = length-records (M .inner) _ _ j ∙ ap (λ (n : ℕ). rowWords * n) (omega (arith, close-is, first-is))
+  middle-size = length-records (M .inner) _ _ j _ ∙ ap (λ (n : ℕ). rowWords * n) (omega (arith, close-is, first-is))
 
   ahead-is : M .rows .ahead ≡ take (rowWords * contentFirst t j) t
   ahead-is = sym (ap (take (rowWords * contentFirst t j)) were ∙ take-at (M .rows .ahead) _ _ ahead-size)
@@ -239,8 +239,8 @@ module _ {reading : ℕ → Rule} (rd : Readable reading) (l : Limits) (small : 
         isRun = k .0;
         counted = omega (arith, k .1, close-is, first-is);
         movedRows = sym middle-is
-            ∙ records-from-zero missing j (M .inner) _ _ (few-rows (withDepth l left) small _ as-run)
-            ∙ (λ i. moved (start-is i) (first-is i) missing j (sym (k .2) i));
+            ∙ records-from-zero missing j (M .inner) _ _ _ (few-rows (withDepth l left) small _ as-run)
+            ∙ (λ i. moved (start-is i) (first-is i) (contentDeeper t j) missing j (sym (k .2) i));
       }
 
   module _ (y : List ℕ) (py : Plain y) (hy : Accepted (withDepth l left) run y)
@@ -292,7 +292,7 @@ module _ {reading : ℕ → Rule} (rd : Readable reading) (l : Limits) (small : 
         (rowsRead (withDepth l left) run y)
     unfolding M
     rows-now = of-edited .2 ∙ R .now ∙ (λ i. eachRow (widened (first-is i) (change-is i)) (ahead-is i)
-        ++ (moved (start-is i) (first-is i) missing j (sym (of-y′ .2) i)
+        ++ (moved (start-is i) (first-is i) (contentDeeper t j) missing j (sym (of-y′ .2) i)
         ++ eachRow (pushed (first-is i) missing (change-is i)) (rest-is i)))
 
     count-now : countOf l reading (replacedBytes s (contentStart t j) (contentEnd t c) y) + (c - contentFirst t j)

@@ -12,15 +12,15 @@ readings =
     ∷ on run "</a>" (at 3 0)
     ∷ on run "a< /b" (at 3 1)
     ∷ on run "</>+<>" (at 3 0)
-    ∷ on run "hi" (rows (row 14 0 2 4294967295 1 0 []))
+    ∷ on run "hi" (rows (row 14 0 2 4294967295 1 0 0 []))
     ∷ on stage " \t\n\u{b}\u{c}\r/* * */<a/>// x" (counted 3)
     ∷ []
 
 -- 'Bytes, blanks, comments'
 abbrev blank-cases : List Case
 blank-cases =
-    on stage "< a . b / >" (rows (row 1 0 11 4294967295 5 0 (row 18 0 11 0 5 0 (row 7 2 7 1 5 0 (row 4 2 3 2 4 0
-    (row 16 6 7 2 5 0 []))))))
+    on stage "< a . b / >" (rows (row 1 0 11 4294967295 5 0 0 (row 18 0 11 0 5 0 1 (row 7 2 7 1 5 0 2 (row 4 2 3 2 4 0 3
+    (row 16 6 7 2 5 0 3 []))))))
     ∷ on stage "<a//b\r/>" (counted 3)
     ∷ on stage "<a//\u{2028}\n/>" (at 3 4)
     ∷ on stage "<a//\u{2029}" (at 3 4)
@@ -34,32 +34,32 @@ blank-cases =
 -- 'Markup'
 abbrev markup-cases : List Case
 markup-cases =
-    on stage "<a-/>" (rows (row 1 0 5 4294967295 3 0 (row 18 0 5 0 3 0 (row 3 1 3 1 3 1 []))))
+    on stage "<a-/>" (rows (row 1 0 5 4294967295 3 0 0 (row 18 0 5 0 3 0 1 (row 3 1 3 1 3 1 2 []))))
     ∷ on stage "<a--1/>" (counted 3)
     ∷ on stage "<if/>" (counted 3)
     ∷ on stage "<a:b.c/>" (at 3 4)
     ∷ on stage "<a.b:c/>" (at 3 4)
-    ∷ on stage "<a-b:c-d/>" (rows (row 1 0 10 4294967295 5 0 (row 18 0 10 0 5 0 (row 6 1 8 1 5 0
-    (row 16 1 4 2 4 1 (row 16 5 8 2 5 1 []))))))
-    ∷ on stage "<A/>" (rows (row 1 0 4 4294967295 3 0 (row 18 0 4 0 3 0 (row 4 1 2 1 3 0 []))))
-    ∷ on stage "<_a/>" (rows (row 1 0 5 4294967295 3 0 (row 18 0 5 0 3 0 (row 4 1 3 1 3 0 []))))
-    ∷ on stage "<$a/>" (rows (row 1 0 5 4294967295 3 0 (row 18 0 5 0 3 0 (row 4 1 3 1 3 0 []))))
-    ∷ on stage "<A-b/>" (rows (row 1 0 6 4294967295 3 0 (row 18 0 6 0 3 0 (row 3 1 4 1 3 1 []))))
-    ∷ on stage "<this/>" (rows (row 1 0 7 4294967295 3 0 (row 18 0 7 0 3 0 (row 5 1 5 1 3 0 []))))
-    ∷ on stage "<thisx/>" (rows (row 1 0 8 4294967295 3 0 (row 18 0 8 0 3 0 (row 3 1 6 1 3 0 []))))
-    ∷ on stage "<this.a/>" (rows (row 1 0 9 4294967295 5 0 (row 18 0 9 0 5 0 (row 7 1 7 1 5 0 (row 5 1 5 2 4 0
-    (row 16 6 7 2 5 0 []))))))
-    ∷ on stage "<foo.bar/>" (rows (row 1 0 10 4294967295 5 0 (row 18 0 10 0 5 0 (row 7 1 8 1 5 0
-    (row 4 1 4 2 4 0 (row 16 5 8 2 5 0 []))))))
+    ∷ on stage "<a-b:c-d/>" (rows (row 1 0 10 4294967295 5 0 0 (row 18 0 10 0 5 0 1 (row 6 1 8 1 5 0 2
+    (row 16 1 4 2 4 1 3 (row 16 5 8 2 5 1 3 []))))))
+    ∷ on stage "<A/>" (rows (row 1 0 4 4294967295 3 0 0 (row 18 0 4 0 3 0 1 (row 4 1 2 1 3 0 2 []))))
+    ∷ on stage "<_a/>" (rows (row 1 0 5 4294967295 3 0 0 (row 18 0 5 0 3 0 1 (row 4 1 3 1 3 0 2 []))))
+    ∷ on stage "<$a/>" (rows (row 1 0 5 4294967295 3 0 0 (row 18 0 5 0 3 0 1 (row 4 1 3 1 3 0 2 []))))
+    ∷ on stage "<A-b/>" (rows (row 1 0 6 4294967295 3 0 0 (row 18 0 6 0 3 0 1 (row 3 1 4 1 3 1 2 []))))
+    ∷ on stage "<this/>" (rows (row 1 0 7 4294967295 3 0 0 (row 18 0 7 0 3 0 1 (row 5 1 5 1 3 0 2 []))))
+    ∷ on stage "<thisx/>" (rows (row 1 0 8 4294967295 3 0 0 (row 18 0 8 0 3 0 1 (row 3 1 6 1 3 0 2 []))))
+    ∷ on stage "<this.a/>" (rows (row 1 0 9 4294967295 5 0 0 (row 18 0 9 0 5 0 1 (row 7 1 7 1 5 0 2 (row 5 1 5 2 4 0 3
+    (row 16 6 7 2 5 0 3 []))))))
+    ∷ on stage "<foo.bar/>" (rows (row 1 0 10 4294967295 5 0 0 (row 18 0 10 0 5 0 1 (row 7 1 8 1 5 0 2
+    (row 4 1 4 2 4 0 3 (row 16 5 8 2 5 0 3 []))))))
     ∷ on stage "<a b=\"x\"c='y'{...d}e={f}g:h=<i/>/>" (counted 22)
     ∷ on stage "<a b b/>" (counted 7)
-    ∷ on stage "<a b=\"\\\"/>" (rows (row 1 0 10 4294967295 6 0 (row 18 0 10 0 6 0 (row 3 1 2 1 3 0
-    (row 8 3 8 1 6 0 (row 16 3 4 3 5 0 (row 10 5 8 3 6 0 [])))))))
+    ∷ on stage "<a b=\"\\\"/>" (rows (row 1 0 10 4294967295 6 0 0 (row 18 0 10 0 6 0 1 (row 3 1 2 1 3 0 2
+    (row 8 3 8 1 6 0 2 (row 16 3 4 3 5 0 3 (row 10 5 8 3 6 0 3 [])))))))
     ∷ on stage "<a b='\n'/>" (counted 6)
-    ∷ on stage "<a>{ /* x */ }</a>" (rows (row 1 0 18 4294967295 7 1 (row 18 0 3 0 3 0 (row 3 1 2 1 3 0
-    (row 11 3 14 0 5 0 (row 12 4 13 3 5 0 (row 17 14 18 0 7 0 (row 3 16 17 5 7 0 []))))))))
-    ∷ on stage "<a>{...b}</a>" (rows (row 1 0 13 4294967295 7 1 (row 18 0 3 0 3 0 (row 3 1 2 1 3 0
-    (row 13 3 9 0 5 0 (row 15 7 8 3 5 0 (row 17 9 13 0 7 0 (row 3 11 12 5 7 0 []))))))))
+    ∷ on stage "<a>{ /* x */ }</a>" (rows (row 1 0 18 4294967295 7 1 0 (row 18 0 3 0 3 0 1 (row 3 1 2 1 3 0 2
+    (row 11 3 14 0 5 0 1 (row 12 4 13 3 5 0 2 (row 17 14 18 0 7 0 1 (row 3 16 17 5 7 0 2 []))))))))
+    ∷ on stage "<a>{...b}</a>" (rows (row 1 0 13 4294967295 7 1 0 (row 18 0 3 0 3 0 1 (row 3 1 2 1 3 0 2
+    (row 13 3 9 0 5 0 1 (row 15 7 8 3 5 0 2 (row 17 9 13 0 7 0 1 (row 3 11 12 5 7 0 2 []))))))))
     ∷ on stage "<a . b></ a/**/.b >" (counted 9)
     ∷ on stage "<a.b></a:b>" (refusedBy 7 1 4 7 10)
     ∷ on stage "<a></A>" (refusedBy 7 1 2 5 6)
@@ -110,7 +110,7 @@ refusal-cases =
     on stage "" (at 4 0)
     ∷ on stage "<a>x" (at 4 4)
     ∷ on stage "<x>{a, b}</x>" (span 16 5 6)
-    ∷ on run "hiyo" (rows (row 14 0 4 4294967295 1 0 []))
+    ∷ on run "hiyo" (rows (row 14 0 4 4294967295 1 0 0 []))
     ∷ on stage "<v></w" (at 4 6)
     ∷ on stage "<f.b-" (span 10 3 5)
     ∷ on stage "<a b={ /**/ }/>" (span 11 5 13)

@@ -137,21 +137,21 @@ module _ (l : Limits) (small : l .bytes ≤ 1_048_576) (x y : List ℕ) (px : Pl
   -- No text meets a text: the first's rows, then the second's, places moved by the first's length, record numbers by
   -- the first's count; a missing parent stays missing.
   pub rows-apart : meets textLabel u v ≡ false
-      → rowsOf (joinedReadings u v) ≡ rowsOf u ++ moved (length x) (count u) missing missing (rowsOf v)
+      → rowsOf (joinedReadings u v) ≡ rowsOf u ++ moved (length x) (count u) 0 missing missing (rowsOf v)
   rows-apart m =
-      records-apart textLabel u v 0 0 missing m (beyond 0 (count v) few)
-      ∙ ap (λ (n : ℕ). rowsOf u ++ moved n (count u) missing missing (rowsOf v)) (run-width l x px ax)
+      records-apart textLabel u v 0 0 missing 0 m (beyond 0 (count v) few)
+      ∙ ap (λ (n : ℕ). rowsOf u ++ moved n (count u) 0 missing missing (rowsOf v)) (run-width l x px ax)
 
   -- A text meets a text: the first's last row ends where the second's first row ends, moved along; then the second's
   -- other rows, places moved by the first's length, record numbers by one less than the first's count.
   pub rows-met : meets textLabel u v ≡ true
       → rowsOf (joinedReadings u v) ≡ lastEnds (length x + firstEnd (rowsOf v)) (rowsOf u) ++ moved (length x)
-      (count u - 1) missing missing (drop rowWords (rowsOf v))
+      (count u - 1) 0 missing missing (drop rowWords (rowsOf v))
   unfolding textLabel
   rows-met m =
-      records-met textLabel (λ d. refl) u v 0 0 missing m (reads-bare (l .depth) x u (ax .reads))
+      records-met textLabel (λ d. refl) u v 0 0 missing 0 m (reads-bare (l .depth) x u (ax .reads))
       (reads-bare (l .depth) y v (ay .reads)) (beyond 0 (count v) few)
       ∙ ap
-      (λ (n : ℕ). lastEnds (n + firstEnd (rowsOf v)) (rowsOf u) ++ moved n (count u - 1) missing missing
+      (λ (n : ℕ). lastEnds (n + firstEnd (rowsOf v)) (rowsOf u) ++ moved n (count u - 1) 0 missing missing
       (drop rowWords (rowsOf v)))
       (run-width l x px ax)

@@ -9,16 +9,16 @@ use Rattle.jsx.proofs.Case.{Case, on, rows, refusedBy, at, span, wrong}
 abbrev pub starred : List Case
 starred =
     -- "`<a/>` 3 records"
-    on stage "<a/>" (rows (row 1 0 4 4294967295 3 0 (row 18 0 4 0 3 0 (row 3 1 2 1 3 0 []))))
+    on stage "<a/>" (rows (row 1 0 4 4294967295 3 0 0 (row 18 0 4 0 3 0 1 (row 3 1 2 1 3 0 2 []))))
     -- "`<v>hi</v>` as above"
-    ∷ on stage "<v>hi</v>" (rows (row 1 0 9 4294967295 6 1 (row 18 0 3 0 3 0 (row 3 1 2 1 3 0 (row 14 3 5 0 4 0
-    (row 17 5 9 0 6 0 (row 3 7 8 4 6 0 [])))))))
+    ∷ on stage "<v>hi</v>" (rows (row 1 0 9 4294967295 6 1 0 (row 18 0 3 0 3 0 1 (row 3 1 2 1 3 0 2 (row 14 3 5 0 4 0 1
+    (row 17 5 9 0 6 0 1 (row 3 7 8 4 6 0 2 [])))))))
     -- "`<a-b.c/>` 5 records"
-    ∷ on stage "<a-b.c/>" (rows (row 1 0 8 4294967295 5 0 (row 18 0 8 0 5 0 (row 7 1 6 1 5 0 (row 4 1 4 2 4 1
-    (row 16 5 6 2 5 0 []))))))
+    ∷ on stage "<a-b.c/>" (rows (row 1 0 8 4294967295 5 0 0 (row 18 0 8 0 5 0 1 (row 7 1 6 1 5 0 2 (row 4 1 4 2 4 1 3
+    (row 16 5 6 2 5 0 3 []))))))
     -- "`<a>{}</a>` empty expression 4, 4"
-    ∷ on stage "<a>{}</a>" (rows (row 1 0 9 4294967295 7 1 (row 18 0 3 0 3 0 (row 3 1 2 1 3 0 (row 11 3 5 0 5 0
-    (row 12 4 4 3 5 0 (row 17 5 9 0 7 0 (row 3 7 8 5 7 0 []))))))))
+    ∷ on stage "<a>{}</a>" (rows (row 1 0 9 4294967295 7 1 0 (row 18 0 3 0 3 0 1 (row 3 1 2 1 3 0 2 (row 11 3 5 0 5 0 1
+    (row 12 4 4 3 5 0 2 (row 17 5 9 0 7 0 1 (row 3 7 8 5 7 0 2 []))))))))
     -- "`<v></w>` 7: 1, 2 and 5, 6"
     ∷ on stage "<v></w>" (refusedBy 7 1 2 5 6)
     -- "`<></a>` 8: 0, 2 and 4, 5"

@@ -103,8 +103,8 @@ module _ (w : Forest) (k x : ℕ) (c : Forest) (small : count (w ⋈ group (node
   unfolding count
   counts = omega (arith, count-behind w (group (node k x) c nil))
 
-  row-at : (m : ℕ) → m < count all → RowOf all 0 0 missing m m
-  row-at m h = row-of all 0 0 missing m m (omega arith) h
+  row-at : (m : ℕ) → m < count all → RowOf all 0 0 missing 0 m m
+  row-at m h = row-of all 0 0 missing 0 m m (omega arith) h
 
   last-node : NodeIs all 0 0 (count w) (node k x) c (0 + width w)
   last-node = node-behind w nil 0 0 k x c (omega arith)

@@ -106,8 +106,8 @@ smaller-ones =
     -- A19
     ∷ on stage "< ></a>" (refusedBy 8 0 3 5 6)
     ∷ on stage "<a></ >" (refusedBy 9 1 2 3 7)
-    ∷ on stage "<a b = 'c' d/>" (rows (row 1 0 14 4294967295 8 0 (row 18 0 14 0 8 0 (row 3 1 2 1 3 0
-    (row 8 3 10 1 6 0 (row 16 3 4 3 5 0 (row 10 7 10 3 6 0 (row 8 11 12 1 8 0 (row 16 11 12 6 8 0 [])))))))))
+    ∷ on stage "<a b = 'c' d/>" (rows (row 1 0 14 4294967295 8 0 0 (row 18 0 14 0 8 0 1 (row 3 1 2 1 3 0 2
+    (row 8 3 10 1 6 0 2 (row 16 3 4 3 5 0 3 (row 10 7 10 3 6 0 3 (row 8 11 12 1 8 0 2 (row 16 11 12 6 8 0 3 [])))))))))
     -- A20
     ∷ limited (deep 2) stage "<a b={c}/>" (counted 7)
     ∷ limited (deep 1) stage "<a b={c}/>" (at 14 5)

@@ -26,7 +26,8 @@ use Rattle.rules.proofs.Deeper.{deepen, records-deepen}
 use Rattle.rules.proofs.Formed.{Formed, formed}
 use Rattle.rules.proofs.Rows.{eachRow}
 use Rattle.rules.proofs.Moved.{moved, beyond}
-use Rattle.rules.proofs.Edited.{changeOf, widened, pushed, recordsBefore, holder, Edited, edited, edited-moved}
+use Rattle.rules.proofs.Edited.{changeOf, widened, pushed, recordsBefore, holder, holders, Edited, edited}
+use Rattle.rules.proofs.Edited.{edited-moved}
 use Rattle.rules.proofs.Held.{insideOf, placeOf, ContentOf, content-of}
 use Rattle.rules.proofs.Numbered.{labelOf, parentOf, RowOf, row-of, formed-at, NodeIs, first-child, child-behind}
 use Rattle.rules.proofs.Numbered.{child-parent, parent-known, parent-inside}
@@ -35,7 +36,7 @@ use Rattle.jsx.specs.Byte.{is, end}
 use Rattle.jsx.specs.Blank.{pass}
 use Rattle.jsx.specs.Element.{children}
 use Rattle.jsx.specs.Compose.{rowsOf, withDepth, WellFormed, Reads, ReadAs, bytesBetween, replacedBytes}
-use Rattle.jsx.specs.Compose.{pairedRow, Closed, contentFirst}
+use Rattle.jsx.specs.Compose.{pairedRow, Closed, contentFirst, contentDeeper}
 use Rattle.jsx.specs.Reading.{Limits, stage, run}
 use Rattle.jsx.specs.Table.{missing, tableWord}
 use Rattle.jsx.proofs.Paired.{HasContent, pairedLabel, wellPaired}
@@ -208,23 +209,25 @@ pub record ContentOfRecord (u : Forest) (j : ℕ) : Type 0 where
   pub ends : bytesBefore spot + width inner ≡ tableWord (rowsOf u) (recordsBefore spot + count inner) 1
   -- its first record is the first past those of the opening tag,
   pub since : recordsBefore spot ≡ contentFirst (rowsOf u) j
-  -- and its outermost records have the record j for parent;
+  -- its outermost records have the record j for parent
   pub parent : holder 0 missing spot ≡ j
+  -- and stand one deeper than it;
+  pub deeper : holders 0 spot ≡ contentDeeper (rowsOf u) j
   -- the levels are those that the record's forest has;
   pub levels : contentDepth (insideOf 0 j u) ≡ depth
   -- the record behind it, and no other, is the closing tag.
   pub closed : Closed (rowsOf u) (count u) j (recordsBefore spot + count inner)
   pub one : (c : ℕ) → Closed (rowsOf u) (count u) j c → c ≡ recordsBefore spot + count inner
   -- the rows in front of it and behind it, and what becomes of them
-  pub rows : Edited spot 0 0 missing
+  pub rows : Edited spot 0 0 missing 0
 
 module _ (u : Forest) (small : count u ≤ missing) (formed-u : Formed wellPaired u) (j : ℕ) (known : j < count u)
     (pr : pairedRow (rowsOf u) j ≡ true) where
   in-range : j < 0 + count u
   in-range = omega arith
 
-  row-j : RowOf u 0 0 missing j j
-  row-j = row-of u 0 0 missing j j (omega arith) known
+  row-j : RowOf u 0 0 missing 0 j j
+  row-j = row-of u 0 0 missing 0 j j (omega arith) known
 
   paired-j : pairedLabel (labelOf 0 j u) ≡ true
   unfolding tableWord
@@ -267,8 +270,8 @@ module _ (u : Forest) (small : count u ≤ missing) (formed-u : Formed wellPaire
   last-row =
       child-behind u 0 0 j between Kind.closingTag 0 close nil (omega arith) in-range (unfold _⋈_ tag close in has .4)
 
-  row-at : (n : ℕ) → n < 0 + count u → RowOf u 0 0 missing n n
-  row-at n h = row-of u 0 0 missing n n (omega arith) (omega arith)
+  row-at : (n : ℕ) → n < 0 + count u → RowOf u 0 0 missing 0 n n
+  row-at n h = row-of u 0 0 missing 0 n n (omega arith) (omega arith)
 
   opening-end : tableWord (rowsOf u) (j + 1) 2 ≡ placeOf 0 0 j u + width tag
   unfolding tableWord
@@ -289,7 +292,7 @@ module _ (u : Forest) (small : count u ≤ missing) (formed-u : Formed wellPaire
   abbrev close-number : ℕ
   close-number = j + 1 + count between
 
-  close-row : RowOf u 0 0 missing close-number close-number
+  close-row : RowOf u 0 0 missing 0 close-number close-number
   close-row = row-at close-number (last-row .known)
 
   -- All records of the record j: those of the opening tag, of the content and of the closing tag.
@@ -328,8 +331,8 @@ module _ (u : Forest) (small : count u ≤ missing) (formed-u : Formed wellPaire
   unfolding tableWord
   one-closed c h = go (ltb c close-number) refl (ltb close-number c) refl
     where
-      row-c : RowOf u 0 0 missing c c
-      row-c = row-of u 0 0 missing c c (omega arith) (h .closeKnown)
+      row-c : RowOf u 0 0 missing 0 c c
+      row-c = row-of u 0 0 missing 0 c c (omega arith) (h .closeKnown)
 
       parent-c : parentOf 0 missing c u ≡ j
       parent-c = sym (row-c .parent-word) ∙ h .parent
@@ -375,10 +378,11 @@ module _ (u : Forest) (small : count u ≤ missing) (formed-u : Formed wellPaire
     since = omega (arith, held-j .since, ap count (first-row .inner))
         ∙ sym (row-at (j + 1) (first-row .known) .after-word);
     parent = held-j .parent;
+    deeper = held-j .deeper 0 ∙ ap (λ (n : ℕ). n + 1) (sym (row-j .depth-word));
     levels = ap contentDepth (has .4);
     closed = subst (Closed (rowsOf u) (count u) j) number-is is-closed;
     one = λ c h. one-closed c h ∙ number-is;
-    rows = edited (held-j .spot) (held-j .follows (omega arith)) 0 0 missing (beyond 0 (count u) (omega arith));
+    rows = edited (held-j .spot) (held-j .follows (omega arith)) 0 0 missing 0 (beyond 0 (count u) (omega arith));
   }
 
 -- What the two readings have in common: how far they look, and that their records are few.
@@ -414,22 +418,23 @@ module _ (reading : ℕ → Rule) (rd : Readable reading) (l : Limits) (small : 
 
   -- Its rows: those in front of the content, the content's, and those behind it.
   pub rows-were : rowsOf u ≡ meant .rows .ahead ++
-      (records (bytesBefore (meant .spot)) (recordsBefore (meant .spot)) j (meant .inner) ++ meant .rows .rest)
+      (records (bytesBefore (meant .spot)) (recordsBefore (meant .spot)) j (contentDeeper (rowsOf u) j) (meant .inner)
+      ++ meant .rows .rest)
   rows-were = meant .rows .was ∙ (λ i. meant .rows .ahead
       ++
       (records (zero-add (bytesBefore (meant .spot)) i) (zero-add (recordsBefore (meant .spot)) i)
-      (meant .parent i) (meant .inner) ++ meant .rows .rest))
+      (meant .parent i) (meant .deeper i) (meant .inner) ++ meant .rows .rest))
 
   -- After it was replaced by the run y, which is read as v.
   pub record Replaced (y : List ℕ) (v : Forest) : Type 0 where
     -- the input stays accepted, and is read with the run's reading inside;
     pub stays : ReadAs l reading (refilled s (meant .spot) y) (fill (meant .spot) v)
     -- in front, rows stay, but that the records around the content have their `end` and `after` moved; then the run's
-    -- rows moved along, with the record j for parent; behind, all places and numbers of records behind the content
+    -- rows moved along, with the record j for parent and so much deeper; behind, all places and numbers of records behind the content
     -- are moved.
     pub now : rowsOf (fill (meant .spot) v) ≡ eachRow
         (widened (recordsBefore (meant .spot)) (changeOf (meant .inner) v)) (meant .rows .ahead)
-        ++ (moved (bytesBefore (meant .spot)) (recordsBefore (meant .spot)) missing j (rowsOf v)
+        ++ (moved (bytesBefore (meant .spot)) (recordsBefore (meant .spot)) (contentDeeper (rowsOf u) j) missing j (rowsOf v)
         ++ eachRow (pushed (recordsBefore (meant .spot)) missing (changeOf (meant .inner) v)) (meant .rows .rest))
 
   -- DEMAND 3: any accepted run that keeps the length limit, and the depth limit by the depth that is left there.
@@ -442,13 +447,13 @@ module _ (reading : ℕ → Rule) (rd : Readable reading) (l : Limits) (small : 
   replace-record y py {v} b h = record {
     stays = replaces reading (rd .flow) l s y ps py a (meant .spot) b h;
     now =
-        edited-moved (meant .spot) 0 0 missing missing (meant .rows) v
+        edited-moved (meant .spot) 0 0 missing 0 missing (meant .rows) v
         (few-rows (withDepth l (meant .depth)) small y b)
         ∙ (λ i. eachRow (widened (zero-add (recordsBefore (meant .spot)) i) (changeOf (meant .inner) v))
         (meant .rows .ahead)
         ++
-        (moved (zero-add (bytesBefore (meant .spot)) i) (zero-add (recordsBefore (meant .spot)) i) missing
-        (meant .parent i) (rowsOf v)
+        (moved (zero-add (bytesBefore (meant .spot)) i) (zero-add (recordsBefore (meant .spot)) i)
+        (meant .deeper i) missing (meant .parent i) (rowsOf v)
         ++ eachRow (pushed (zero-add (recordsBefore (meant .spot)) i) missing (changeOf (meant .inner) v))
         (meant .rows .rest)));
   }
@@ -467,4 +472,4 @@ run-deeper-accepted l k d y b =
 
 -- The depths that a reading notes at contents may grow: its rows stay the same.
 pub rows-deeper : (k : ℕ) (v : Forest) → rowsOf (deepen k v) ≡ rowsOf v
-rows-deeper k v = records-deepen k v 0 0 missing
+rows-deeper k v = records-deepen k v 0 0 missing 0

@@ -58,7 +58,7 @@ pub record ReadAs (l : Limits) (reading : ℕ → Rule) (s : List ℕ) (u : Fore
 
 -- The rows of a forest, as a read writes them.
 abbrev pub rowsOf : Forest → List ℕ
-rowsOf u = records 0 0 missing u
+rowsOf u = records 0 0 missing 0 u
 
 -- The forest that an answer has.
 unfoldable pub forestOf : Answer → Forest
@@ -138,11 +138,15 @@ contentChange t j c y m′ = record {
   newRecords = m′;
 }
 
+-- D2: "a replaced content adds the enclosing record's depth plus one".
+abbrev pub contentDeeper : (t : List ℕ) (j : ℕ) → ℕ
+contentDeeper t j = tableWord t j 6 + 1
+
 -- The rows t with the rows t′ for the content of the record j: in front of it only `end` and `after` of the records
--- around it move; t′ stands moved along, its outermost records in j; behind it all places and numbers of records
--- behind it move.
+-- around it move; t′ stands moved along, its outermost records in j, and each as much deeper; behind it all places and
+-- numbers of records behind it move. Outside no depth changes.
 abbrev pub replacedRows : (t : List ℕ) (j c : ℕ) → Change → (t′ : List ℕ) → List ℕ
 replacedRows t j c h t′ =
     eachRow (widened (contentFirst t j) h) (take (rowWords * contentFirst t j) t)
-    ++ (moved (contentStart t j) (contentFirst t j) missing j t′
+    ++ (moved (contentStart t j) (contentFirst t j) (contentDeeper t j) missing j t′
     ++ eachRow (pushed (contentFirst t j) missing h) (drop (rowWords * c) t))

@@ -17,7 +17,7 @@ use Rattle.jsx.specs.Reading.{Limits, answer, run}
 use Rattle.jsx.specs.Table.{missing, accepted, holds, written, check, read}
 use Rattle.jsx.specs.Compose.{Accepted, countOf, rowsRead, withDepth, ReadAs, rowsOf, textsMeet, bytesBetween}
 use Rattle.jsx.specs.Compose.{replacedBytes, pairedRow, Closed, contentStart, contentFirst, contentEnd}
-use Rattle.jsx.specs.Compose.{contentRows, depthLeft, contentChange, replacedRows}
+use Rattle.jsx.specs.Compose.{contentRows, contentDeeper, depthLeft, contentChange, replacedRows}
 
 -- ---- inputs
 
@@ -65,14 +65,15 @@ abbrev pub EmptyRun : Type 0
 EmptyRun = (l : Limits) → Accepted l run [] × (countOf l run [] ≡ 0)
 
 -- "its reading is the first's followed by the second's, moved along,": its rows are the first's, then the second's
--- with places moved by the first's length and record numbers by the first's count; who had no parent has none.
+-- with places moved by the first's length and record numbers by the first's count; who had no parent has none. D2: "a
+-- joined run keeps the word" of depth: it is 0 records deeper.
 abbrev pub RowsFollow : Type 0
 RowsFollow = (l : Limits) → l .bytes ≤ 1_048_576
     → (x y : List ℕ) → Plain x → Accepted l run x → Accepted l run y → length (x ++ y) ≤ l .bytes
     → textsMeet (rowsRead l run x) (countOf l run x) (rowsRead l run y) ≡ false
     → (countOf l run (x ++ y) ≡ countOf l run x + countOf l run y)
     × (rowsRead l run (x ++ y)
-    ≡ rowsRead l run x ++ moved (length x) (countOf l run x) missing missing (rowsRead l run y))
+    ≡ rowsRead l run x ++ moved (length x) (countOf l run x) 0 missing missing (rowsRead l run y))
 
 -- "except that a text meeting a text becomes one.": the first's last row ends where the second's first row ended,
 -- moved along, and that row is gone: the others' numbers are moved by one less.
@@ -83,7 +84,7 @@ TextsBecomeOne = (l : Limits) → l .bytes ≤ 1_048_576
     → (countOf l run (x ++ y) + 1 ≡ countOf l run x + countOf l run y)
     × (rowsRead l run (x ++ y)
     ≡ lastEnds (length x + firstEnd (rowsRead l run y)) (rowsRead l run x)
-    ++ moved (length x) (countOf l run x - 1) missing missing (drop rowWords (rowsRead l run y)))
+    ++ moved (length x) (countOf l run x - 1) 0 missing missing (drop rowWords (rowsRead l run y)))
 
 -- ---- Demand 3: "And in any accepted stage, the content of a paired element or fragment"
 
@@ -104,7 +105,7 @@ OneClosingTag reading = (l : Limits) → l .bytes ≤ 1_048_576
     × ((c′ : ℕ) → Closed (rowsRead l reading s) (countOf l reading s) j c′ → c′ ≡ c)
 
 -- The content's places and numbers are in order, and the content is itself an accepted run with the depth that is
--- left there: its rows stand there moved along, its outermost records in j.
+-- left there: its rows stand there moved along, its outermost records in j, each deeper by j's depth plus one.
 pub record ContentIsRun (reading : ℕ → Rule) (l : Limits) (s t : List ℕ) (j c : ℕ) : Type 0 where
   pub startEnd : contentStart t j ≤ contentEnd t c
   pub inInput : contentEnd t c ≤ length s
@@ -113,7 +114,7 @@ pub record ContentIsRun (reading : ℕ → Rule) (l : Limits) (s t : List ℕ) (
   pub counted : countOf (withDepth l (depthLeft l reading s j)) run (bytesBetween s (contentStart t j) (contentEnd t c))
       ≡ c - contentFirst t j
   pub movedRows : contentRows t j c
-      ≡ moved (contentStart t j) (contentFirst t j) missing j
+      ≡ moved (contentStart t j) (contentFirst t j) (contentDeeper t j) missing j
       (rowsRead (withDepth l (depthLeft l reading s j)) run (bytesBetween s (contentStart t j) (contentEnd t c)))
 
 abbrev pub ContentsAreRuns : (reading : ℕ → Rule) → Type 0

@@ -26,7 +26,7 @@ field n = code " " ∷ decimal n
 unfoldable pub parentField : ℕ → List ℕ
 parentField n = pick (eqb n missing) (bytesOf " -") (field n)
 
--- D: "0 1 0 9 - 6 1": the record's number, then its words.
+-- D: "0 1 0 9 - 6 1": the record's number, then its words; D2: "printed lines end with the new number".
 unfoldable pub rowLine : List ℕ → (number : ℕ) → List ℕ
 rowLine t k =
     decimal k
@@ -36,6 +36,7 @@ rowLine t k =
     ++ parentField (tableWord t k 3)
     ++ field (tableWord t k 4)
     ++ field (tableWord t k 5)
+    ++ field (tableWord t k 6)
     ++ bytesOf "\n"
 
 -- The rows of `left` records from number k on.

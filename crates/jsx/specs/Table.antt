@@ -32,7 +32,7 @@ refused n a b c d t = record { number = n; start = a; end = b; start₂ = c; end
 unfoldable pub accepted : (count : ℕ) → List ℕ → Outcome
 accepted m t = record { number = 0; start = 0; end = 0; start₂ = 0; end₂ = 0; count = m; table = t }
 
--- D: "A table of w words holds w/6 records, rounded down".
+-- D: "A table of w words holds .. records, rounded down"; D2: "now holds w/7 records".
 unfoldable pub holds : List ℕ → ℕ
 holds t = length t / rowWords
 
@@ -52,7 +52,7 @@ checked (trouble n a b c d) = refused n a b c d []
 -- 0".
 unfoldable pub readInto : List ℕ → Answer → Outcome
 readInto t (got a o p) =
-    pick (leb (count o) (holds t)) (accepted (count o) (written (records 0 0 missing o) t))
+    pick (leb (count o) (holds t)) (accepted (count o) (written (records 0 0 missing 0 o) t))
     (refused tableTooSmall (count o) 0 0 0 t)
 readInto t (trouble n a b c d) = refused n a b c d t
 

@@ -23,29 +23,28 @@ use Rattle.lex.specs.declared.Ans.{Ans}
 use Rattle.lex.specs.declared.Ans.the-variants.{Got, No}
 use Rattle.lex.proofs.Laws as Lex
 use Rattle.lex.proofs.Bare.{goes-blanks, bare-blanks}
-use Rattle.table.specs.declared.Slot.{Slot}
-use Rattle.table.specs.Slot.{slotBehind}
+use Rattle.table.specs.Slot.{Seat, seatBehind}
 use Rattle.table.specs.Reader.{Room, Made}
 use Rattle.table.proofs.Made.{refused, made-length}
-use Rattle.table.proofs.Upto.{Upto, upto-begin, upto-count, upto-made, same-slot, look-no, look-yes, look-else}
+use Rattle.table.proofs.Upto.{Upto, upto-begin, upto-count, upto-made, same-seat, look-no, look-yes, look-else}
 use Rattle.table.proofs.Upto.{leaf-goes, leaf-stops, byte-goes, last-made, last-made-stops, loop-on, loop-out}
 use Rattle.table.proofs.Upto.{loop-stops}
 use Rattle.name.proofs.Parts.{goes-dotted}
 
 -- The last part ends at p, and m parts were read since `at`.
-pub record Dotted (s : List ℕ) (at : ℕ) (q : Slot) (t₀ : List ℕ) (p m : ℕ) (t : List ℕ) : Type 0 where
+pub record Dotted (s : List ℕ) (at : ℕ) (q : Seat) (t₀ : List ℕ) (p m : ℕ) (t : List ℕ) : Type 0 where
   pub room : Room 4 s at q
   pub here : Upto s (many dotted) at q 0 t₀ (many dotted) p m t
 
 -- Before the first turn.
-pub dotted-begin : {s : List ℕ} {at : ℕ} {q : Slot} (t : List ℕ) → Room 4 s at q → Dotted s at q t at 0 t
+pub dotted-begin : {s : List ℕ} {at : ℕ} {q : Seat} (t : List ℕ) → Room 4 s at q → Dotted s at q t at 0 t
 dotted-begin {q = q} t room = record { room = room; here = upto-begin (many dotted) q 0 t (room .inside) }
 
 -- ---- a turn
 
-module _ {s : List ℕ} {at : ℕ} {q : Slot} {t₀ : List ℕ} {p m : ℕ} {t : List ℕ} (v : Dotted s at q t₀ p m t) where
-  turn : Upto s dotted p (slotBehind m q) (0 + rowWords * m) t dotted p 0 t
-  turn = upto-begin dotted (slotBehind m q) (0 + rowWords * m) t (v .here .inside)
+module _ {s : List ℕ} {at : ℕ} {q : Seat} {t₀ : List ℕ} {p m : ℕ} {t : List ℕ} (v : Dotted s at q t₀ p m t) where
+  turn : Upto s dotted p (seatBehind m q) (0 + rowWords * m) t dotted p 0 t
+  turn = upto-begin dotted (seatBehind m q) (0 + rowWords * m) t (v .here .inside)
 
   module _ {r : Ans} (l : Leaf nothing r s blanks p 0) where
     -- The blanks refuse.
@@ -66,7 +65,7 @@ module _ {s : List ℕ} {at : ℕ} {q : Slot} {t₀ : List ℕ} {p m : ℕ} {t :
 
       -- A dot stands there.
       module _ (x : b ≡ code ".") {r₂ : Ans} (l₂ : Leaf nothing r₂ s blanks (e + 1) 0) where
-        behind-dot : Upto s dotted p (slotBehind m q) (0 + rowWords * m) t (blanks ⨾ dottedPart) (e + 1) 0 t
+        behind-dot : Upto s dotted p (seatBehind m q) (0 + rowWords * m) t (blanks ⨾ dottedPart) (e + 1) 0 t
         unfolding dotted
         behind-dot =
             byte-goes (leaf-goes (look-yes turn l goes-blanks h y (eq-eqb b (code ".") x)) l goes-blanks bare-blanks h)
@@ -78,10 +77,10 @@ module _ {s : List ℕ} {at : ℕ} {q : Slot} {t₀ : List ℕ} {p m : ℕ} {t :
             → Made r₂ s (many dotted) at 0 q 0 t₀ t′
         turn-stops-behind h₂ = refused (loop-stops (v .here) (leaf-stops behind-dot l₂ h₂)) h₂
 
-        module _ {a j₂ : ℕ} (h₂ : r₂ ≡ Got a j₂) {q₁ : Slot} (f : q₁ ≡ slotBehind m q) {i : ℕ}
+        module _ {a j₂ : ℕ} (h₂ : r₂ ≡ Got a j₂) {q₁ : Seat} (f : q₁ ≡ seatBehind m q) {i : ℕ}
             (g : i ≡ rowWords * m) {r₃ : Ans}
             {t′ : List ℕ} (l₃ : Made r₃ s dottedPart a 1 q₁ i t t′) where
-          at-part : Upto s dotted p (slotBehind m q) (0 + rowWords * m) t dottedPart a 0 t
+          at-part : Upto s dotted p (seatBehind m q) (0 + rowWords * m) t dottedPart a 0 t
           at-part = leaf-goes behind-dot l₂ goes-blanks bare-blanks h₂
 
           -- The part behind the dot refuses.
@@ -94,14 +93,14 @@ module _ {s : List ℕ} {at : ℕ} {q : Slot} {t₀ : List ℕ} {p m : ℕ} {t :
               let far₁ = l .far _ _ h in
               let far₂ = l₂ .far _ _ h₂ in
               let far₃ = l₃ .of .far _ _ h₃ in
-              let through = last-made at-part l₃ goes-dotted (f ∙ same-slot (slotBehind m q)) (omega arith) h₃ in
+              let through = last-made at-part l₃ goes-dotted (f ∙ same-seat (seatBehind m q)) (omega arith) h₃ in
               let on = loop-on refl refl (v .here) through (omega arith) in
               let e₁ : m + (0 + j₃) ≡ m + j₃ = omega arith in
               rw (y₁, k) (record { room = v .room; here = upto-count on e₁ })
 
 -- ---- what the calls ask
 
-module _ {s : List ℕ} {at : ℕ} {q : Slot} {t₀ : List ℕ} {p m : ℕ} {t : List ℕ} (v : Dotted s at q t₀ p m t) where
+module _ {s : List ℕ} {at : ℕ} {q : Seat} {t₀ : List ℕ} {p m : ℕ} {t : List ℕ} (v : Dotted s at q t₀ p m t) where
   -- The last part ends within the input.
   pub turn-inside : (u : List ℕ) {y : ℕ} → y ≡ p → u ≡ s → y ≤ length u
   turn-inside u e f = rw (e, f) (v .here .inside)
@@ -122,7 +121,7 @@ module _ {s : List ℕ} {at : ℕ} {q : Slot} {t₀ : List ℕ} {p m : ℕ} {t :
       omega arith
 
   -- The place of the next row stays within 64 bits.
-  pub turn-word : {k : ℕ} → k ≡ m → Fits w64 (6 * k)
+  pub turn-word : {k : ℕ} → k ≡ m → Fits w64 (rowWords * k)
   turn-word e =
       let few = turn-few in
       let here = v .here .inside in
@@ -143,15 +142,21 @@ module _ {s : List ℕ} {at : ℕ} {q : Slot} {t₀ : List ℕ} {p m : ℕ} {t :
 
     module _ {r₂ : Ans} (l₂ : Leaf nothing r₂ s blanks (e + 1) 0) {a j₂ : ℕ} (h₂ : r₂ ≡ Got a j₂) where
       -- Room for the part behind the dot.
-      pub turn-room : {u : List ℕ} {y : ℕ} {q₁ : Slot} → u ≡ s → y ≡ a → q₁ ≡ slotBehind m q → Room 4 u y q₁
+      pub turn-room : {u : List ℕ} {y : ℕ} {q₁ : Seat} → u ≡ s → y ≡ a → q₁ ≡ seatBehind m q → Room 4 u y q₁
       turn-room g f x =
           let few = turn-few in
           let far = l .far _ _ h in
           let far₂ = l₂ .far _ _ h₂ in
           rw (g, f, x)
-          (record { short = v .room .short; inside = far₂ .1; few = omega arith; held = v .room .held })
+          (record {
+            short = v .room .short;
+            inside = far₂ .1;
+            few = omega arith;
+            held = v .room .held;
+            shallow = omega (arith, v .room .shallow);
+          })
 
-      module _ {q₁ : Slot} {i : ℕ} {t′ : List ℕ} {r₃ : Ans} (l₃ : Made r₃ s dottedPart a 1 q₁ i t t′) {z j₃ : ℕ}
+      module _ {q₁ : Seat} {i : ℕ} {t′ : List ℕ} {r₃ : Ans} (l₃ : Made r₃ s dottedPart a 1 q₁ i t t′) {z j₃ : ℕ}
           (h₃ : r₃ ≡ Got z j₃) where
         -- A part comes nearer to the end.
         pub turn-nearer : {y : ℕ} → y ≡ z → length s - y < length s - p
@@ -176,7 +181,7 @@ module _ {s : List ℕ} {at : ℕ} {q : Slot} {t₀ : List ℕ} {p m : ℕ} {t :
         turn-length = made-length l₃ h₃ ∙ v .here .long
 
 -- The table keeps its length.
-pub dotted-length : {s : List ℕ} {at : ℕ} {q : Slot} {t₀ : List ℕ} {p m : ℕ} {t : List ℕ}
+pub dotted-length : {s : List ℕ} {at : ℕ} {q : Seat} {t₀ : List ℕ} {p m : ℕ} {t : List ℕ}
     → Dotted s at q t₀ p m t
     → length t ≡ length t₀
 dotted-length v = v .here .long

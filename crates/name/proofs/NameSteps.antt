@@ -22,7 +22,7 @@ use Rattle.lex.specs.declared.Ans.{Ans}
 use Rattle.lex.specs.declared.Ans.the-variants.{Got, No}
 use Rattle.lex.proofs.Laws as Lex
 use Rattle.lex.proofs.Bare.{goes-part, goes-blanks}
-use Rattle.table.specs.declared.Slot.{Slot}
+use Rattle.table.specs.Slot.{Seat}
 use Rattle.table.specs.Reader.{Made}
 use Rattle.table.proofs.Made.{refused, made-as}
 use Rattle.table.proofs.Asked.{reader-asked}
@@ -63,7 +63,7 @@ module _ {s : List ℕ} {at : ℕ} (g : Test) (t u : Rule) {r : Ans} (l : Leaf n
 
 -- ---- the steps
 
-module _ {s : List ℕ} {at : ℕ} {r : Ans} (l : Leaf nothing r s part at 1) {q₀ : Slot} {t : List ℕ} where
+module _ {s : List ℕ} {at : ℕ} {r : Ans} (l : Leaf nothing r s part at 1) {q₀ : Seat} {t : List ℕ} where
   -- No part begins here, so no element's name does.
   pub element-stops : {t′ : List ℕ} {n a b c d : ℕ} → r ≡ No n a b c d → Made r s elementName at 1 q₀ 0 t t′
   unfolding elementName

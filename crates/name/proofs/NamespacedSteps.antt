@@ -24,12 +24,11 @@ use Rattle.lex.specs.declared.Ans.{Ans}
 use Rattle.lex.specs.declared.Ans.the-variants.{Got, No}
 use Rattle.lex.proofs.Laws as Lex
 use Rattle.lex.proofs.Bare.{goes-blanks, bare-blanks}
-use Rattle.table.specs.declared.Slot.{Slot}
-use Rattle.table.specs.Slot.{slotInside, slotBehind}
+use Rattle.table.specs.Slot.{Seat, seatInside, seatBehind}
 use Rattle.table.specs.Contract.{Words, Stored}
 use Rattle.table.specs.Reader.{Room, Made}
 use Rattle.table.proofs.Made.{refused}
-use Rattle.table.proofs.Upto.{Upto, upto-begin, same-slot, read-goes, byte-goes, leaf-goes, made-goes, last-made}
+use Rattle.table.proofs.Upto.{Upto, upto-begin, same-seat, read-goes, byte-goes, leaf-goes, made-goes, last-made}
 use Rattle.table.proofs.Upto.{last-made-stops, handed-up, node-made, node-no}
 use Rattle.table.proofs.Asked.{reader-asked}
 use Rattle.name.specs.declared.First.{First}
@@ -48,23 +47,23 @@ goes-second = goes-other
 abbrev pair : Rule
 pair = otherPart ⨾ blanks ⨾ expect ":" ⨾ blanks ⨾ otherPart
 
-module _ {s : List ℕ} {f : First} {q : Slot} (room : Room 3 s (f .at) q) (pre : Prefix s f) {q₁ : Slot}
-    (g : q₁ ≡ slotInside q)
+module _ {s : List ℕ} {f : First} {q : Seat} (room : Room 3 s (f .at) q) (pre : Prefix s f) {q₁ : Seat}
+    (g : q₁ ≡ seatInside q)
     (t : List ℕ) {t₁ : List ℕ}
     (w : Spelt rowWords q₁ (node Kind.otherPart (dashed (bytesFrom s (f .at) (f .end - f .at)))) (f .at) (f .end) t t₁)
   where
     -- The first part was read and its row stored; then blanks, and the colon.
-    behind-colon : Upto s pair (f .at) (slotInside q) (0 + rowWords) t (blanks ⨾ otherPart) (f .next + 1) 1 t₁
+    behind-colon : Upto s pair (f .at) (seatInside q) (0 + rowWords) t (blanks ⨾ otherPart) (f .next + 1) 1 t₁
     behind-colon =
         let far = pre .read .far in
         let far₂ = pre .passed .far in
-        let first = made-goes (upto-begin pair (slotInside q) (0 + rowWords) t (room .inside))
-        (other-made (pre .read .is) (far .0) (far .1) w) goes-other (g ∙ same-slot (slotInside q)) (omega arith) refl in
+        let first = made-goes (upto-begin pair (seatInside q) (0 + rowWords) t (room .inside))
+        (other-made (pre .read .is) (far .0) (far .1) w) goes-other (g ∙ same-seat (seatInside q)) (omega arith) refl in
         byte-goes (read-goes first bare-blanks (pre .passed .is) (far₂ .1)) ":" refl (lit< tt) refl (pre .colon)
 
-    module _ {q₂ : Slot} (g₂ : q₂ ≡ slotBehind 1 q₁) {p : ℕ} (x : p ≡ f .next + 1) {r : Ans} {t₂ : List ℕ}
-        (m : Made r s (blanks ⨾ otherPart) p 1 q₂ 12 t₁ t₂) where
-      second : Made r s (blanks ⨾ otherPart) (f .next + 1) 1 q₂ 12 t₁ t₂
+    module _ {q₂ : Seat} (g₂ : q₂ ≡ seatBehind 1 q₁) {p : ℕ} (x : p ≡ f .next + 1) {r : Ans} {t₂ : List ℕ}
+        (m : Made r s (blanks ⨾ otherPart) p 1 q₂ (2 * rowWords) t₁ t₂) where
+      second : Made r s (blanks ⨾ otherPart) (f .next + 1) 1 q₂ (2 * rowWords) t₁ t₂
       second = rw x at m
 
       -- The second part refuses.
@@ -84,13 +83,13 @@ module _ {s : List ℕ} {f : First} {q : Slot} (room : Room 3 s (f .at) q) (pre 
           let far = pre .read .far in
           let far₂ = pre .passed .far in
           let far₃ = second .of .far _ _ h in
-          let slot : q₂ ≡ slotBehind 1 (slotInside q) = g₂ ∙ (λ i. slotBehind 1 (g i)) in
+          let slot : q₂ ≡ seatBehind 1 (seatInside q) = g₂ ∙ (λ i. seatBehind 1 (g i)) in
           let through = last-made behind-colon second goes-second slot (omega arith) h in
           let c : 1 + j ≡ j + 1 = omega arith in
           let k₂ : j + 1 + 1 ≡ j + 2 = omega arith in
           rw (e, v) (rw k₂ at (node-made Kind.namespaced 1 (rw c at through) (omega arith) st (omega arith)))
 
-module _ {s : List ℕ} {at : ℕ} {r : Ans} (l : Leaf nothing r s blanks at 0) {q : Slot} {k : ℕ} {t : List ℕ} where
+module _ {s : List ℕ} {at : ℕ} {r : Ans} (l : Leaf nothing r s blanks at 0) {q : Seat} {k : ℕ} {t : List ℕ} where
   -- The blanks in front of a part refuse.
   pub next-stops : {t′ : List ℕ} {n a b c d : ℕ} → r ≡ No n a b c d → Made r s (blanks ⨾ otherPart) at 1 q k t t′
   next-stops h = refused (seq-no s (suc (length s)) blanks 0 at (Lex.leaf-no l h) otherPart) h
@@ -106,7 +105,7 @@ module _ {s : List ℕ} {at : ℕ} {r : Ans} (l : Leaf nothing r s blanks at 0) 
 
 -- ---- what the calls ask
 
-module _ {s : List ℕ} {f : First} {q : Slot} (room : Room 3 s (f .at) q) (pre : Prefix s f) where
+module _ {s : List ℕ} {f : First} {q : Seat} (room : Room 3 s (f .at) q) (pre : Prefix s f) where
   -- The place behind the colon stays within 64 bits.
   pub colon-fits : {y : ℕ} → y ≡ f .next → Fits w64 (y + 1)
   colon-fits e =
@@ -123,9 +122,9 @@ module _ {s : List ℕ} {f : First} {q : Slot} (room : Room 3 s (f .at) q) (pre 
   prefix-inside u e g = rw (e, g) (pre .read .far .1)
 
   -- Room for the second part.
-  pub second-room : {q₁ q₂ : Slot} {u : List ℕ} {y : ℕ}
-      → q₁ ≡ slotInside q
-      → q₂ ≡ slotBehind 1 q₁
+  pub second-room : {q₁ q₂ : Seat} {u : List ℕ} {y : ℕ}
+      → q₁ ≡ seatInside q
+      → q₂ ≡ seatBehind 1 q₁
       → u ≡ s
       → y ≡ f .next + 1
       → Room 4 u y q₂
@@ -136,13 +135,19 @@ module _ {s : List ℕ} {f : First} {q : Slot} (room : Room 3 s (f .at) q) (pre 
       let far = pre .read .far in
       let far₂ = pre .passed .far in
       let i = Lex.before-end s (f .next) (code ":") (pre .colon) (lit< tt) in
-      rw (g₂, g, e, x) (record { short = room .short; inside = omega arith; few = omega arith; held = omega arith })
+      rw (g₂, g, e, x) (record {
+        short = room .short;
+        inside = omega arith;
+        few = omega arith;
+        held = omega arith;
+        shallow = omega (arith, room .shallow);
+      })
 
-  module _ {q₂ : Slot} {r : Ans} {i p : ℕ} {t u : List ℕ} (m : Made r s (blanks ⨾ otherPart) p 1 q₂ i t u) {z j : ℕ}
+  module _ {q₂ : Seat} {r : Ans} {i p : ℕ} {t u : List ℕ} (m : Made r s (blanks ⨾ otherPart) p 1 q₂ i t u) {z j : ℕ}
       (h : r ≡ Got z j)
       (x : p ≡ f .next + 1) where
     -- The name's own row may be stored.
-    pub namespaced-words : {q₁ : Slot} {a y c : ℕ}
+    pub namespaced-words : {q₁ : Seat} {a y c : ℕ}
         → q₁ ≡ q
         → a ≡ f .at
         → y ≡ z
@@ -153,6 +158,7 @@ module _ {s : List ℕ} {f : First} {q : Slot} (room : Room 3 s (f .at) q) (pre 
         let short = room .short in
         let here = room .inside in
         let held = room .held in
+        let deep = room .shallow in
         let far = pre .read .far in
         let far₂ = pre .passed .far in
         let far₃ = m .of .far _ _ h in

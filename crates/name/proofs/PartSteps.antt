@@ -15,7 +15,7 @@ use Rattle.lex.specs.declared.Ans.{Ans}
 use Rattle.lex.specs.declared.Ans.the-variants.{Got, No}
 use Rattle.lex.proofs.Laws as Lex
 use Rattle.lex.proofs.Bare.{goes-part, bare-part, direct-got}
-use Rattle.table.specs.declared.Slot.{Slot}
+use Rattle.table.specs.Slot.{Seat}
 use Rattle.table.specs.Reader.{Made}
 use Rattle.table.proofs.Made.{refused, made-as}
 use Rattle.name.specs.Contract.{Spelt}
@@ -28,7 +28,7 @@ bytes : {r : Ans} {s : List ℕ} {at e j : ℕ} → Leaf nothing r s part at 1 �
 bytes {s = s} {at} l h =
     ap dashed (sym (direct-got s (suc (length s)) part 0 at bare-part (Lex.leaf-got goes-part l h)))
 
-module _ {r : Ans} {s : List ℕ} {at : ℕ} (l : Leaf nothing r s part at 1) {k : ℕ} {q : Slot} {t : List ℕ} where
+module _ {r : Ans} {s : List ℕ} {at : ℕ} (l : Leaf nothing r s part at 1) {k : ℕ} {q : Seat} {t : List ℕ} where
   -- No part begins here.
   pub part-stops : {t′ : List ℕ} {n a b c d : ℕ} → r ≡ No n a b c d → Made r s otherPart at 1 q k t t′
   part-stops h = refused (other-no s at (Lex.leaf-no l h)) h

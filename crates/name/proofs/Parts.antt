@@ -21,7 +21,7 @@ use Rattle.lex.specs.declared.Ans.{Ans}
 use Rattle.lex.specs.declared.Ans.the-variants.{Got, No}
 use Rattle.lex.proofs.Laws as Lex
 use Rattle.lex.proofs.Bare.{goes-part, bare-part, direct-got}
-use Rattle.table.specs.declared.Slot.{Slot}
+use Rattle.table.specs.Slot.{Seat}
 use Rattle.table.specs.Reader.{Made}
 use Rattle.table.proofs.Made.{refused, made-as}
 use Rattle.table.proofs.Upto.{leaf-made}
@@ -30,7 +30,7 @@ use Rattle.name.specs.Contract.{Spelt}
 -- A name's part that was read is a node by its label, which goes by its bytes.
 module _ {s : List ℕ} {at e : ℕ} (r : readAt s part at ≡ got true (outOf (readAt s part at)) e) (i : at + 1 ≤ e)
     (j : e ≤ length s)
-    {k : ℕ} {q : Slot} {t t′ : List ℕ} where
+    {k : ℕ} {q : Seat} {t t′ : List ℕ} where
   labelled : (label : List ℕ → Label) → Spelt k q (label (bytesFrom s at (e - at))) at e t t′
       → Made (Got e 1) s (wrap (λ o. label (direct o)) part) at 1 q k t t′
   labelled label w =

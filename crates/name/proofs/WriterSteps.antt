@@ -11,7 +11,7 @@ use Rattle.rules.specs.Parse.{pick}
 use Rattle.jsx.specs.Kind as Kind
 use Rattle.jsx.specs.Name.{has, firstIs, dashed, isThis, opensReference, oneName, objectName}
 use Rattle.lex.specs.Contract.{bytesFrom}
-use Rattle.table.specs.declared.Slot.{Slot}
+use Rattle.table.specs.Slot.{Seat}
 use Rattle.table.specs.Contract.{Words, Stored}
 use Rattle.table.specs.Reader.{Room}
 use Rattle.table.proofs.Laws.{stored-none}
@@ -47,13 +47,13 @@ object-says w = go (isThis w)
 -- ---- to close a return
 
 -- Its row was stored.
-pub spelt : {l : Label} {i k x : ℕ} {q : Slot} {a z : ℕ} {t t′ : List ℕ}
+pub spelt : {l : Label} {i k x : ℕ} {q : Seat} {a z : ℕ} {t t′ : List ℕ}
     → l ≡ node k x
     → Stored i q k a z x 0 t t′
     → Spelt i q l a z t t′
 spelt {k = k} {x} e w = record { kind = k; extra = x; says = e; stored = w }
 
-module _ {c : ℕ} {s : List ℕ} {a : ℕ} {q : Slot} (room : Room c s a q) (i : ℕ) (z : ℕ) {t : List ℕ}
+module _ {c : ℕ} {s : List ℕ} {a : ℕ} {q : Seat} (room : Room c s a q) (i : ℕ) (z : ℕ) {t : List ℕ}
     (h : length t ≡ 0) where
   unstored : {l : Label} → c ≤ 100 → Says l → Spelt i q l a z t t
   unstored j l =
@@ -75,14 +75,14 @@ module _ {c : ℕ} {s : List ℕ} {a : ℕ} {q : Slot} (room : Room c s a q) (i 
   part-unstored x j = unstored j (record { kind = Kind.otherPart; extra = x; so = refl })
 
 -- The row of a part says what its label does.
-pub part-spelt : {i x d : ℕ} {q : Slot} {a z : ℕ} {t t′ : List ℕ}
+pub part-spelt : {i x d : ℕ} {q : Seat} {a z : ℕ} {t t′ : List ℕ}
     → d ≡ x
     → Stored i q Kind.otherPart a z d 0 t t′
     → Spelt i q (node Kind.otherPart x) a z t t′
 part-spelt {i} {q = q} {a} {z} {t} {t′} e w = spelt refl (rw e at w)
 
 -- The row of an object says what its label does.
-pub object-spelt : (w : List ℕ) {i k d : ℕ} {q : Slot} {a z : ℕ} {t t′ : List ℕ}
+pub object-spelt : (w : List ℕ) {i k d : ℕ} {q : Seat} {a z : ℕ} {t t′ : List ℕ}
     → d ≡ dashed w
     → objectName w ≡ node k (dashed w)
     → Stored i q k a z d 0 t t′
@@ -91,9 +91,9 @@ object-spelt w e l v = spelt l (rw e at v)
 
 -- ---- what the calls ask: words
 
-module _ {c : ℕ} {s : List ℕ} {a : ℕ} {q : Slot} (room : Room c s a q) {b : ℕ} (j : b ≤ length s) (w : List ℕ) {d : ℕ}
+module _ {c : ℕ} {s : List ℕ} {a : ℕ} {q : Seat} (room : Room c s a q) {b : ℕ} (j : b ≤ length s) (w : List ℕ) {d : ℕ}
     (e : d ≡ dashed w) where
-  small-words : {k : ℕ} {q₁ : Slot} {a₁ b₁ d₁ : ℕ}
+  small-words : {k : ℕ} {q₁ : Seat} {a₁ b₁ d₁ : ℕ}
       → k ≤ 16
       → c ≤ 100
       → q₁ ≡ q
@@ -106,11 +106,12 @@ module _ {c : ℕ} {s : List ℕ} {a : ℕ} {q : Slot} (room : Room c s a q) {b 
       let here = room .inside in
       let short = room .short in
       let held = room .held in
+      let deep = room .shallow in
       let one = dashed-few w in
       rw (g₁, g₂, g₃, g₄) (omega arith)
 
   -- The numbers in the row of another part are words.
-  pub part-words : {q₁ : Slot} {a₁ b₁ d₁ : ℕ}
+  pub part-words : {q₁ : Seat} {a₁ b₁ d₁ : ℕ}
       → c ≤ 100
       → q₁ ≡ q
       → a₁ ≡ a
@@ -120,7 +121,7 @@ module _ {c : ℕ} {s : List ℕ} {a : ℕ} {q : Slot} (room : Room c s a q) {b 
   part-words f g₁ g₂ g₃ g₄ = small-words (omega arith) f g₁ g₂ g₃ g₄
 
   -- The numbers in the row of a whole name are words.
-  pub name-words : {k k₁ : ℕ} {q₁ : Slot} {a₁ b₁ d₁ : ℕ}
+  pub name-words : {k k₁ : ℕ} {q₁ : Seat} {a₁ b₁ d₁ : ℕ}
       → oneName w ≡ node k d
       → c ≤ 100
       → q₁ ≡ q
@@ -132,7 +133,7 @@ module _ {c : ℕ} {s : List ℕ} {a : ℕ} {q : Slot} (room : Room c s a q) {b 
   name-words l f g₁ g₂ g₃ g₄ g₅ = let few = name-few w l in small-words (omega arith) f g₁ g₃ g₄ g₅
 
   -- The numbers in the row of an object are words.
-  pub object-words : {k k₁ : ℕ} {q₁ : Slot} {a₁ b₁ d₁ : ℕ}
+  pub object-words : {k k₁ : ℕ} {q₁ : Seat} {a₁ b₁ d₁ : ℕ}
       → objectName w ≡ node k (dashed w)
       → c ≤ 100
       → q₁ ≡ q

@@ -8,7 +8,7 @@ use Rattle.rules.specs.Parse.{byteAt}
 use Rattle.jsx.specs.Blank.{blanks}
 use Rattle.jsx.specs.Name.{part}
 use Rattle.lex.specs.Contract.{Past}
-use Rattle.table.specs.declared.Slot.{Slot}
+use Rattle.table.specs.Slot.{Seat}
 use Rattle.table.specs.Contract.{Stored}
 use Rattle.name.specs.declared.First.{First}
 
@@ -19,7 +19,7 @@ pub record Prefix (s : List ℕ) (f : First) : Type 0 where
   pub colon : byteAt s (f .next) ≡ code ":"
 
 -- From t to t′ the row of a node with this label, from a to z, with none below it, was stored at the word k.
-pub record Spelt (k : ℕ) (q : Slot) (label : Label) (a z : ℕ) (t t′ : List ℕ) : Type 0 where
+pub record Spelt (k : ℕ) (q : Seat) (label : Label) (a z : ℕ) (t t′ : List ℕ) : Type 0 where
   pub kind : ℕ
   pub extra : ℕ
   pub says : label ≡ node kind extra

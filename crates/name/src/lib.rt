@@ -8,6 +8,7 @@ ghost use Rattle.jsx.specs.Kind as Kind;
 ghost use Rattle.jsx.specs.Blank.{blanks};
 ghost use Rattle.jsx.specs.Name.{dashed, isThis, opensReference, oneName, objectName, part as namePart, otherPart, dottedPart, dotted, elementName, attributeName, namespaced, member};
 ghost use Rattle.lex.specs.Contract.{Past, bytesFrom};
+ghost use Rattle.table.specs.Slot.{seat};
 ghost use Rattle.table.specs.Contract.{Stored};
 ghost use Rattle.table.specs.Reader.{Room, Made};
 ghost use Rattle.name.specs.Contract.{Prefix, Spelt};
@@ -82,8 +83,8 @@ fn object_kind(s: &[u8], a: usize, b: usize) -> usize
 
 // The row of a one-part name from a to b, where a table is lent.
 pub fn put_name(t: &mut [u32], s: &[u8], slot: Slot, a: usize, b: usize)
-    requires { ⌜ Room 4 (now s) a slot × (a < b) × (b ≤ length (now s)) ⌝ }
-    ensures { λ _. ⌜ Spelt 0 slot (oneName (bytesFrom (now (s .entry)) a (b - a))) a b (now (t .entry)) (now (t .exit)) ⌝ }
+    requires { ⌜ Room 4 (now s) a (seat slot) × (a < b) × (b ≤ length (now s)) ⌝ }
+    ensures { λ _. ⌜ Spelt 0 (seat slot) (oneName (bytesFrom (now (s .entry)) a (b - a))) a b (now (t .entry)) (now (t .exit)) ⌝ }
 {
     if t.len() == 0 {
         return;
@@ -105,8 +106,8 @@ pub fn put_name(t: &mut [u32], s: &[u8], slot: Slot, a: usize, b: usize)
 
 // The row of a member's object from a to b at the word k, where a table is lent.
 fn put_object(t: &mut [u32], s: &[u8], k: usize, slot: Slot, a: usize, b: usize)
-    requires { ⌜ Room 4 (now s) a slot × (a ≤ b) × (b ≤ length (now s)) ⌝ }
-    ensures { λ _. ⌜ Spelt k slot (objectName (bytesFrom (now (s .entry)) a (b - a))) a b (now (t .entry)) (now (t .exit)) ⌝ }
+    requires { ⌜ Room 4 (now s) a (seat slot) × (a ≤ b) × (b ≤ length (now s)) ⌝ }
+    ensures { λ _. ⌜ Spelt k (seat slot) (objectName (bytesFrom (now (s .entry)) a (b - a))) a b (now (t .entry)) (now (t .exit)) ⌝ }
 {
     if t.len() == 0 {
         return;
@@ -129,8 +130,8 @@ fn put_object(t: &mut [u32], s: &[u8], k: usize, slot: Slot, a: usize, b: usize)
 
 // The row of any other part from a to b at the word k, where a table is lent.
 fn put_part(t: &mut [u32], s: &[u8], k: usize, slot: Slot, a: usize, b: usize)
-    requires { ⌜ Room 4 (now s) a slot × (a ≤ b) × (b ≤ length (now s)) ⌝ }
-    ensures { λ _. ⌜ Spelt k slot (node Kind.otherPart (dashed (bytesFrom (now (s .entry)) a (b - a)))) a b (now (t .entry)) (now (t .exit)) ⌝ }
+    requires { ⌜ Room 4 (now s) a (seat slot) × (a ≤ b) × (b ≤ length (now s)) ⌝ }
+    ensures { λ _. ⌜ Spelt k (seat slot) (node Kind.otherPart (dashed (bytesFrom (now (s .entry)) a (b - a)))) a b (now (t .entry)) (now (t .exit)) ⌝ }
 {
     if t.len() == 0 {
         return;
@@ -152,8 +153,8 @@ fn put_part(t: &mut [u32], s: &[u8], k: usize, slot: Slot, a: usize, b: usize)
 
 // A part that is no whole name, with its row at the word k.
 fn parse_part(t: &mut [u32], s: &[u8], k: usize, slot: Slot, at: usize) -> Ans
-    requires { ⌜ Room 4 (now s) at slot ⌝ }
-    ensures { λ r. ⌜ Made r (now (s .entry)) otherPart at 1 slot k (now (t .entry)) (now (t .exit)) ⌝ }
+    requires { ⌜ Room 4 (now s) at (seat slot) ⌝ }
+    ensures { λ r. ⌜ Made r (now (s .entry)) otherPart at 1 (seat slot) k (now (t .entry)) (now (t .exit)) ⌝ }
 {
     let r = word::parse_jsx_identifier(s, at);
     let Ans::Got(e, _) = r else {
@@ -165,8 +166,8 @@ fn parse_part(t: &mut [u32], s: &[u8], k: usize, slot: Slot, at: usize) -> Ans
 
 // Blanks, and a part with its row at the word k.
 fn parse_next_part(t: &mut [u32], s: &[u8], k: usize, slot: Slot, at: usize) -> Ans
-    requires { ⌜ Room 4 (now s) at slot ⌝ }
-    ensures { λ r. ⌜ Made r (now (s .entry)) (blanks ⨾ otherPart) at 1 slot k (now (t .entry)) (now (t .exit)) ⌝ }
+    requires { ⌜ Room 4 (now s) at (seat slot) ⌝ }
+    ensures { λ r. ⌜ Made r (now (s .entry)) (blanks ⨾ otherPart) at 1 (seat slot) k (now (t .entry)) (now (t .exit)) ⌝ }
 {
     let r = blank::skip_blanks(s, at);
     let Ans::Got(p, _) = r else {
@@ -177,8 +178,8 @@ fn parse_next_part(t: &mut [u32], s: &[u8], k: usize, slot: Slot, at: usize) -> 
 
 // The rest of `part:part`, behind its first part and the blanks up to the colon.
 pub fn parse_jsx_namespaced_name(t: &mut [u32], s: &[u8], first: First, slot: Slot) -> Ans
-    requires { ⌜ Room 3 (now s) (first .at) slot × Prefix (now s) first ⌝ }
-    ensures { λ r. ⌜ Made r (now (s .entry)) namespaced (first .at) 1 slot 0 (now (t .entry)) (now (t .exit)) ⌝ }
+    requires { ⌜ Room 3 (now s) (first .at) (seat slot) × Prefix (now s) first ⌝ }
+    ensures { λ r. ⌜ Made r (now (s .entry)) namespaced (first .at) 1 (seat slot) 0 (now (t .entry)) (now (t .exit)) ⌝ }
 {
     let inside = slot.inside();
     put_part(t, s, ROW_WORDS, inside, first.at, first.end);
@@ -202,8 +203,8 @@ pub fn parse_jsx_namespaced_name(t: &mut [u32], s: &[u8], first: First, slot: Sl
 
 // A part behind a dot, with its row at the word k: with a dash it is refused, from its start to its end.
 fn parse_dotted_part(t: &mut [u32], s: &[u8], k: usize, slot: Slot, at: usize) -> Ans
-    requires { ⌜ Room 4 (now s) at slot ⌝ }
-    ensures { λ r. ⌜ Made r (now (s .entry)) dottedPart at 1 slot k (now (t .entry)) (now (t .exit)) ⌝ }
+    requires { ⌜ Room 4 (now s) at (seat slot) ⌝ }
+    ensures { λ r. ⌜ Made r (now (s .entry)) dottedPart at 1 (seat slot) k (now (t .entry)) (now (t .exit)) ⌝ }
 {
     let r = word::parse_jsx_identifier(s, at);
     let Ans::Got(e, _) = r else {
@@ -218,8 +219,8 @@ fn parse_dotted_part(t: &mut [u32], s: &[u8], k: usize, slot: Slot, at: usize) -
 
 // The parts behind a member's object, each behind a dot, as many as there are.
 fn parse_dotted_parts(t: &mut [u32], s: &[u8], at: usize, slot: Slot) -> Ans
-    requires { ⌜ Room 4 (now s) at slot ⌝ }
-    ensures { λ r. ⌜ Made r (now (s .entry)) (many dotted) at 0 slot 0 (now (t .entry)) (now (t .exit)) ⌝ }
+    requires { ⌜ Room 4 (now s) at (seat slot) ⌝ }
+    ensures { λ r. ⌜ Made r (now (s .entry)) (many dotted) at 0 (seat slot) 0 (now (t .entry)) (now (t .exit)) ⌝ }
 {
     let mut p = at; // the last part ends here
     let mut m = 0; // as many parts were read
@@ -246,8 +247,8 @@ fn parse_dotted_parts(t: &mut [u32], s: &[u8], at: usize, slot: Slot) -> Ans
 
 // `part.part..`, whose first part ends at e.
 pub fn parse_jsx_member_expression(t: &mut [u32], s: &[u8], at: usize, e: usize, slot: Slot) -> Ans
-    requires { ⌜ Room 3 (now s) at slot × Past e (now s) namePart at 1 ⌝ }
-    ensures { λ r. ⌜ Made r (now (s .entry)) member at 1 slot 0 (now (t .entry)) (now (t .exit)) ⌝ }
+    requires { ⌜ Room 3 (now s) at (seat slot) × Past e (now s) namePart at 1 ⌝ }
+    ensures { λ r. ⌜ Made r (now (s .entry)) member at 1 (seat slot) 0 (now (t .entry)) (now (t .exit)) ⌝ }
 {
     let inside = slot.inside();
     put_object(t, s, ROW_WORDS, inside, at, e);
@@ -272,8 +273,8 @@ pub fn parse_jsx_member_expression(t: &mut [u32], s: &[u8], at: usize, e: usize,
 
 // An element's name: one part, `part:part` or `part.part..`, by the byte behind the first part and its blanks.
 pub fn parse_jsx_element_name(t: &mut [u32], s: &[u8], at: usize, slot: Slot) -> Ans
-    requires { ⌜ Room 3 (now s) at slot ⌝ }
-    ensures { λ r. ⌜ Made r (now (s .entry)) elementName at 1 slot 0 (now (t .entry)) (now (t .exit)) ⌝ }
+    requires { ⌜ Room 3 (now s) at (seat slot) ⌝ }
+    ensures { λ r. ⌜ Made r (now (s .entry)) elementName at 1 (seat slot) 0 (now (t .entry)) (now (t .exit)) ⌝ }
 {
     let r = word::parse_jsx_identifier(s, at);
     let Ans::Got(e, _) = r else {
@@ -305,8 +306,8 @@ pub fn parse_jsx_element_name(t: &mut [u32], s: &[u8], at: usize, slot: Slot) ->
 
 // An attribute's name: one part or `part:part`.
 pub fn parse_jsx_attribute_name(t: &mut [u32], s: &[u8], at: usize, slot: Slot) -> Ans
-    requires { ⌜ Room 3 (now s) at slot ⌝ }
-    ensures { λ r. ⌜ Made r (now (s .entry)) attributeName at 1 slot 0 (now (t .entry)) (now (t .exit)) ⌝ }
+    requires { ⌜ Room 3 (now s) at (seat slot) ⌝ }
+    ensures { λ r. ⌜ Made r (now (s .entry)) attributeName at 1 (seat slot) 0 (now (t .entry)) (now (t .exit)) ⌝ }
 {
     let r = word::parse_jsx_identifier(s, at);
     let Ans::Got(e, _) = r else {

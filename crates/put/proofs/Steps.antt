@@ -10,6 +10,7 @@ use lib.Seq.{sets, set-out}
 use borrow.Author.Needs.{needs}
 use borrow.Author.Tests.{lt-ltb, le-ltb, eq-eqb, ne-eqb}
 use Rattle.rules.specs.Parse.{pick}
+use Rattle.rules.specs.Record.{rowWords}
 use Rattle.jsx.specs.Byte.{bytesOf}
 use Rattle.jsx.specs.Table.{missing, tableWord}
 use Rattle.jsx.specs.Program.{decimalUpTo, decimal, field, parentField, rowLine, rowLines}
@@ -166,14 +167,14 @@ three-behind d a b c = sym (append-assoc d (a ++ b) c) ∙ ap (λ (l : List ℕ)
 
 -- A row of fields is the definition's line.
 row-is : (t : List ℕ) (k : ℕ)
-    → decimal k ++ spanFields t (6 * k) ++ treeFields t (6 * k) ++ (10 ∷ []) ≡ rowLine t k
+    → decimal k ++ spanFields t (rowWords * k) ++ treeFields t (rowWords * k) ++ (10 ∷ []) ≡ rowLine t k
 unfolding rowLine spanFields treeFields tableWord
 row-is t k =
-    let z : 6 * k ≡ 6 * k + 0 = omega arith in
-    let f : ℕ → List ℕ = λ i. fieldAt t (6 * k + i) in
-    let par = parentField (getD t (6 * k + 3) 0) in
+    let z : rowWords * k ≡ rowWords * k + 0 = omega arith in
+    let f : ℕ → List ℕ = λ i. fieldAt t (rowWords * k + i) in
+    let par = parentField (getD t (rowWords * k + 3) 0) in
     ap (λ (l : List ℕ). l ++ (par ++ f 4 ++ f 5) ++ (10 ∷ []))
-    (three-behind (decimal k) (fieldAt t (6 * k)) (f 1) (f 2) ∙ (λ i. decimal k ++ fieldAt t (z i) ++ f 1 ++ f 2))
+    (three-behind (decimal k) (fieldAt t (rowWords * k)) (f 1) (f 2) ∙ (λ i. decimal k ++ fieldAt t (z i) ++ f 1 ++ f 2))
     ∙ ap (λ (l : List ℕ). l ++ (10 ∷ [])) (three-behind (decimal k ++ f 0 ++ f 1 ++ f 2) par (f 4) (f 5))
 
 -- The line of a record.
@@ -181,8 +182,8 @@ pub row-put : (t : List ℕ) (k : ℕ) {p q e r at i j : ℕ} {o o₁ o₂ o₃ 
     → Prints q p 63 (spanFields t i) o₁ o₂
     → Prints e q 63 (treeFields t j) o₂ o₃
     → Prints r e 1 (10 ∷ []) o₃ o₄
-    → i ≡ 6 * k
-    → j ≡ 6 * k
+    → i ≡ rowWords * k
+    → j ≡ rowWords * k
     → Prints r at 147 (rowLine t k) o o₄
 row-put t k x y z w f g = said (then (then (then x y) z) w) (rw (f, g) (row-is t k)) (omega arith)
 

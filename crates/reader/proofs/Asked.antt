@@ -14,6 +14,7 @@ use mir.Val.{Fits}
 use Rattle.rules.specs.Forest.{Forest}
 use Rattle.rules.specs.Rule.{Rule}
 use Rattle.rules.specs.Parse.{byteAt}
+use Rattle.rules.specs.Record.{rowWords}
 use Rattle.jsx.specs.Kind as Kind
 use Rattle.jsx.specs.Byte.{digit, quote}
 use Rattle.jsx.specs.Blank.{pass}
@@ -24,9 +25,8 @@ use Rattle.lex.specs.Contract.{nothing, Leaf, Past}
 use Rattle.lex.specs.declared.Ans.{Ans}
 use Rattle.lex.specs.declared.Ans.the-variants as A
 use Rattle.lex.proofs.Laws as Lex
-use Rattle.table.specs.declared.Slot.{Slot}
-use Rattle.table.specs.Slot.{slotInside, slotBehind}
-use Rattle.table.specs.Contract.{Words}
+use Rattle.table.specs.Slot.{Seat, seatInside, seatBehind}
+use Rattle.table.specs.Contract.{Enterable, Words}
 use Rattle.table.specs.Reader.{Room, Made}
 use Rattle.table.proofs.Asked.{reader-asked, room-here, leaf-inside, past-inside}
 use Rattle.tag.specs.declared.Opened.{Opened}
@@ -67,7 +67,7 @@ module _ (s : List ℕ) (at : ℕ) {b : ℕ} (e : b ≡ byteAt s at) where
   seen-text u h i f g = rw (f, g) (Lex.tested inText e h i)
 
 -- A byte that was seen where a reader stands is within the input.
-module _ {c : ℕ} {s : List ℕ} {at : ℕ} {q : Slot} (room : Room c s at q) {b : ℕ} where
+module _ {c : ℕ} {s : List ℕ} {at : ℕ} {q : Seat} (room : Room c s at q) {b : ℕ} where
   -- A `!` was seen.
   pub bang-inside : b ≡ code "!" → b ≡ byteAt s at → (u : List ℕ) {y : ℕ} → y ≡ at → u ≡ s → y < length u
   bang-inside h e u f g = seen-inside s at e u h (lit< tt) f g
@@ -121,7 +121,7 @@ pub passed-on : {s : List ℕ} {at p k : ℕ} {x : Rule} → Past p s x at k
 passed-on l e f g = rw (e, f, g) l
 
 -- A place behind a leaf and one more byte.
-pub leaf-one-more : {c : ℕ} {s : List ℕ} {at : ℕ} {q : Slot} {w : Bool → Forest → ℕ} {r : Ans} {g : Rule}
+pub leaf-one-more : {c : ℕ} {s : List ℕ} {at : ℕ} {q : Seat} {w : Bool → Forest → ℕ} {r : Ans} {g : Rule}
     {x k p j y : ℕ}
     → Room c s at q
     → Leaf w r s g x k
@@ -133,36 +133,48 @@ leaf-one-more room l h e =
     let short = room .short in
     omega arith
 
-module _ {c : ℕ} {s : List ℕ} {at : ℕ} {q : Slot} (room : Room c s at q) {p k : ℕ}
+module _ {c : ℕ} {s : List ℕ} {at : ℕ} {q : Seat} (room : Room c s at q) {p k : ℕ}
     {g : Rule} (l : Past p s g at k) where
   -- Room inside the record here, behind bytes that were passed.
-  pub past-room : {d : ℕ} {u : List ℕ} {y : ℕ} {q₁ : Slot}
+  pub past-room : {d : ℕ} {u : List ℕ} {y : ℕ} {q₁ : Seat}
       → c + 1 ≤ d + 2 * k
       → c ≤ 100
       → u ≡ s
       → y ≡ p
-      → q₁ ≡ slotInside q
+      → q₁ ≡ seatInside q
       → Room d u y q₁
   past-room i j e f h =
       let far = l .far in
       let few = room .few in
       let short = room .short in
-      rw (e, f, h) (record { short = short; inside = far .1; few = omega arith; held = omega arith })
+      rw (e, f, h) (record {
+        short = short;
+        inside = far .1;
+        few = omega arith;
+        held = omega arith;
+        shallow = omega (arith, room .shallow);
+      })
 
   -- Room one record deeper.
-  pub past-room-deep : {d : ℕ} {u : List ℕ} {y : ℕ} {q₁ q₂ : Slot}
+  pub past-room-deep : {d : ℕ} {u : List ℕ} {y : ℕ} {q₁ q₂ : Seat}
       → c + 2 ≤ d + 2 * k
       → c ≤ 100
       → u ≡ s
       → y ≡ p
-      → q₁ ≡ slotInside q
-      → q₂ ≡ slotInside q₁
+      → q₁ ≡ seatInside q
+      → q₂ ≡ seatInside q₁
       → Room d u y q₂
   past-room-deep i j e f h₁ h₂ =
       let far = l .far in
       let few = room .few in
       let short = room .short in
-      rw (e, f, h₂, h₁) (record { short = short; inside = far .1; few = omega arith; held = omega arith })
+      rw (e, f, h₂, h₁) (record {
+        short = short;
+        inside = far .1;
+        few = omega arith;
+        held = omega arith;
+        shallow = omega (arith, room .shallow);
+      })
 
 -- ---- by reader
 
@@ -190,19 +202,23 @@ pub ruleset wrapped-asked = (node-asked, past-room)
 
 -- ---- a content
 
-module _ {s : List ℕ} {at p v : ℕ} {q : Slot} (ready : Ready s at p v q) where
+module _ {s : List ℕ} {at p v : ℕ} {q : Seat} (ready : Ready s at p v q) where
   few : q .number + 1 + v ≤ 2 * p + 3
   few = ready .room .few
 
   low : p ≤ 1_048_576
   low = omega (arith, ready .room .inside, ready .room .short)
 
-  -- The slot is a number, and so is the one inside it,
-  pub content-slot : {n : ℕ} → n ≡ q .number → n < 2 ^ 32
-  content-slot e = omega (arith, few, low)
+  -- The record may be entered;
+  pub content-enter : {q₁ : Seat} → q₁ ≡ q → Enterable q₁
+  content-enter e =
+      let n = few in
+      let p = low in
+      let deep = ready .room .shallow in
+      rw e (record { small = omega arith; shallow = omega arith })
 
-  -- behind what the record holds,
-  pub content-behind : {q₁ : Slot} {x y : ℕ} → q₁ ≡ slotInside q → x ≡ q₁ .number → y ≡ v → x + y < 2 ^ 32
+  -- the seat inside it, behind what it holds, is within 32 bits,
+  pub content-behind : {q₁ : Seat} {x y : ℕ} → q₁ ≡ seatInside q → x ≡ q₁ .number → y ≡ v → x + y < 2 ^ 32
   content-behind f e g = rw (e, f, g) (omega (arith, few, low))
 
   -- and the place of the next record.
@@ -210,19 +226,19 @@ module _ {s : List ℕ} {at p v : ℕ} {q : Slot} (ready : Ready s at p v q) whe
   content-next e = omega (arith, few, low)
 
   -- So is its place in the table.
-  pub content-row : {y : ℕ} → y ≡ v + 1 → Fits w64 (6 * y)
+  pub content-row : {y : ℕ} → y ≡ v + 1 → Fits w64 (rowWords * y)
   content-row e = omega (arith, few, low)
 
   -- Room for the children.
-  pub content-room : {q₁ q₂ : Slot} {u : List ℕ} {y : ℕ} → q₁ ≡ slotInside q → q₂ ≡ slotBehind v q₁ → u ≡ s → y ≡ p
+  pub content-room : {q₁ q₂ : Seat} {u : List ℕ} {y : ℕ} → q₁ ≡ seatInside q → q₂ ≡ seatBehind v q₁ → u ≡ s → y ≡ p
       → Room 3 u y q₂
   content-room f g e h = rw (e, h, g, f) (ready .room)
 
-  module _ {r : Ans} {g : Rule} {k : ℕ} {q₁ : Slot} {j : ℕ} {t t′ : List ℕ} (l : Made r s g p k q₁ j t t′) {z m : ℕ}
+  module _ {r : Ans} {g : Rule} {k : ℕ} {q₁ : Seat} {j : ℕ} {t t′ : List ℕ} (l : Made r s g p k q₁ j t t′) {z m : ℕ}
       (h : r ≡ A.Got z m) where
     -- Room for the closing tag.
-    pub shut-room : {u : List ℕ} {y w : ℕ} {q₂ : Slot} → u ≡ s → y ≡ z → w ≡ v + m → q₂ ≡ q
-        → Room 3 u y (slotBehind w (slotInside q₂))
+    pub shut-room : {u : List ℕ} {y w : ℕ} {q₂ : Seat} → u ≡ s → y ≡ z → w ≡ v + m → q₂ ≡ q
+        → Room 3 u y (seatBehind w (seatInside q₂))
     shut-room e f g₁ g₂ =
         let far = l .of .far _ _ h in
         rw (e, f, g₁, g₂)
@@ -231,6 +247,7 @@ module _ {s : List ℕ} {at p v : ℕ} {q : Slot} (ready : Ready s at p v q) whe
           inside = far .1;
           few = omega (arith, few);
           held = ready .room .held;
+          shallow = omega (arith, ready .room .shallow);
         })
 
     -- It begins no earlier than the tag.
@@ -245,7 +262,7 @@ module _ {s : List ℕ} {at p v : ℕ} {q : Slot} (ready : Ready s at p v q) whe
     shut-sum e f = let far = l .of .far _ _ h in omega (arith, few, low)
 
 -- The parent of the record is a number.
-pub content-held : {s : List ℕ} {at p v : ℕ} {q q₁ : Slot} → Ready s at p v q → q₁ ≡ q → q₁ .parent < 2 ^ 32
+pub content-held : {s : List ℕ} {at p v : ℕ} {q q₁ : Seat} → Ready s at p v q → q₁ ≡ q → q₁ .parent < 2 ^ 32
 content-held ready e = rw e (ready .held)
 
 -- The name is handed on.
@@ -254,7 +271,7 @@ opening-on v e f = rw (e, f) v
 
 pub ruleset content-asked = (
   needs,
-  content-slot,
+  content-enter,
   content-behind,
   content-next,
   content-row,
@@ -268,8 +285,8 @@ pub ruleset content-asked = (
 
 -- ---- an element
 
-module _ {s : List ℕ} {at : ℕ} {q : Slot} (room : Room 3 s at q) {a : ℕ} (pa : Past a s pass at 1) (t : List ℕ)
-    {q₂ : Slot}
+module _ {s : List ℕ} {at : ℕ} {q : Seat} (room : Room 3 s at q) {a : ℕ} (pa : Past a s pass at 1) (t : List ℕ)
+    {q₂ : Seat}
     {r : Tagged} {n : Inner} {t₁ t₂ : List ℕ} (l : TagMade r s n a q₂ t₁ t₂)
     {z m e k g : ℕ} (h : r ≡ T.Got z m e k g) where
   tag-far : (2 * a + m ≤ 2 * z) × (z ≤ length s) × (a + 2 ≤ z)
@@ -290,13 +307,13 @@ module _ {s : List ℕ} {at : ℕ} {q : Slot} (room : Room 3 s at q) {a : ℕ} (
       omega arith
 
   -- The words of its opening tag are numbers,
-  pub tag-words : {q₃ : Slot} {x y w : ℕ} → q₃ ≡ q → x ≡ at → y ≡ z → w ≡ m
-      → Words (slotInside q₃) Kind.openingTag x y 0 w
+  pub tag-words : {q₃ : Seat} {x y w : ℕ} → q₃ ≡ q → x ≡ at → y ≡ z → w ≡ m
+      → Words (seatInside q₃) Kind.openingTag x y 0 w
   tag-words f₁ f₂ f₃ f₄ =
       rw (f₁, f₂, f₃, f₄) (omega (arith, tag-wide, tag-ends, room .few, room .held))
 
   -- and those of its own record.
-  pub single-words : {q₃ : Slot} {x y w : ℕ} → q₃ ≡ q → x ≡ at → y ≡ z → w ≡ m + 1 → Words q₃ Kind.element x y 0 w
+  pub single-words : {q₃ : Seat} {x y w : ℕ} → q₃ ≡ q → x ≡ at → y ≡ z → w ≡ m + 1 → Words q₃ Kind.element x y 0 w
   single-words f₁ f₂ f₃ f₄ =
       rw (f₁, f₂, f₃, f₄) (omega (arith, tag-wide, tag-ends, room .few, room .held))
 
@@ -317,7 +334,7 @@ module _ {s : List ℕ} {at : ℕ} {q : Slot} (room : Room 3 s at q) {a : ℕ} (
       rw (f, i) (record { read = name .0; all = name .1; behind = omega arith })
 
   -- Room for its content.
-  pub tag-ready : {u : List ℕ} {x y w : ℕ} {q₃ : Slot} → u ≡ s → x ≡ at → y ≡ z → w ≡ m + 1 → q₃ ≡ q → Ready u x y w q₃
+  pub tag-ready : {u : List ℕ} {x y w : ℕ} {q₃ : Seat} → u ≡ s → x ≡ at → y ≡ z → w ≡ m + 1 → q₃ ≡ q → Ready u x y w q₃
   tag-ready f₁ f₂ f₃ f₄ f₅ =
       let far = tag-far in
       let fp = pa .far in
@@ -325,24 +342,19 @@ module _ {s : List ℕ} {at : ℕ} {q : Slot} (room : Room 3 s at q) {a : ℕ} (
       let short = room .short in
       rw (f₁, f₂, f₃, f₄, f₅)
       (record {
-        room = record { short = short; inside = far .1; few = omega arith; held = omega arith };
+        room = record {
+          short = short;
+          inside = far .1;
+          few = omega arith;
+          held = omega arith;
+          shallow = omega (arith, room .shallow);
+        };
         held = room .held;
         from = omega arith;
       })
 
--- The slot inside the record here is a number.
-pub inside-slot : {c : ℕ} {s : List ℕ} {at : ℕ} {q q₁ : Slot} → Room c s at q → c ≤ 100 → q₁ ≡ slotInside q
-    → {n : ℕ} → n ≡ q₁ .number
-    → n < 2 ^ 32
-inside-slot room i f e =
-    let few = room .few in
-    let short = room .short in
-    let here = room .inside in
-    rw (e, f) (omega arith)
-
 pub ruleset named-asked = (
   reader-asked,
-  inside-slot,
   past-room-deep,
   tag-words,
   single-words,
@@ -354,7 +366,7 @@ pub ruleset named-asked = (
 
 -- ---- a fragment
 
-module _ {s : List ℕ} {at : ℕ} {q : Slot} (room : Room 3 s at q) {a : ℕ} (pa : Past a s pass at 1) where
+module _ {s : List ℕ} {at : ℕ} {q : Seat} (room : Room 3 s at q) {a : ℕ} (pa : Past a s pass at 1) where
   -- Its opening tag ends within the input.
   pub fragment-one-more : {y : ℕ} → y ≡ a → Fits w64 (y + 1)
   fragment-one-more f =
@@ -367,18 +379,19 @@ module _ {s : List ℕ} {at : ℕ} {q : Slot} (room : Room 3 s at q) {a : ℕ} (
     fragment-ends = Lex.before-end s a (code ">") b (lit< tt)
 
     -- The words of its opening tag are numbers.
-    pub fragment-words : {q₁ : Slot} {x y : ℕ} → q₁ ≡ q → x ≡ at → y ≡ a + 1
-        → Words (slotInside q₁) Kind.openingTag x y 0 0
+    pub fragment-words : {q₁ : Seat} {x y : ℕ} → q₁ ≡ q → x ≡ at → y ≡ a + 1
+        → Words (seatInside q₁) Kind.openingTag x y 0 0
     fragment-words f₁ f₂ f₃ =
         let fp = pa .far in
         let few = room .few in
         let short = room .short in
         let held = room .held in
+        let deep = room .shallow in
         let ends = fragment-ends in
         rw (f₁, f₂, f₃) (omega arith)
 
     -- Room for its children.
-    pub fragment-room : {u : List ℕ} {y : ℕ} {q₁ q₂ : Slot} → q₁ ≡ slotInside q → q₂ ≡ slotBehind 1 q₁ → u ≡ s
+    pub fragment-room : {u : List ℕ} {y : ℕ} {q₁ q₂ : Seat} → q₁ ≡ seatInside q → q₂ ≡ seatBehind 1 q₁ → u ≡ s
         → y ≡ a + 1
         → Room 3 u y q₂
     fragment-room f₁ f₂ f₃ f₄ =
@@ -387,13 +400,19 @@ module _ {s : List ℕ} {at : ℕ} {q : Slot} (room : Room 3 s at q) {a : ℕ} (
         let short = room .short in
         let ends = fragment-ends in
         rw (f₃, f₄, f₂, f₁)
-        (record { short = short; inside = omega arith; few = omega arith; held = omega arith })
+        (record {
+          short = short;
+          inside = omega arith;
+          few = omega arith;
+          held = omega arith;
+          shallow = omega (arith, room .shallow);
+        })
 
-    module _ {r : Ans} {g : Rule} {p k : ℕ} {q₁ : Slot} {j : ℕ} {t t′ : List ℕ} (l : Made r s g p k q₁ j t t′)
+    module _ {r : Ans} {g : Rule} {p k : ℕ} {q₁ : Seat} {j : ℕ} {t t′ : List ℕ} (l : Made r s g p k q₁ j t t′)
         (ep : p ≡ a + 1) {z m : ℕ} (h : r ≡ A.Got z m) where
       -- Room for its closing tag,
-      pub fragment-shut : {u : List ℕ} {y w : ℕ} {q₂ : Slot} → u ≡ s → y ≡ z → w ≡ m + 1 → q₂ ≡ q
-          → Room 3 u y (slotBehind w (slotInside q₂))
+      pub fragment-shut : {u : List ℕ} {y w : ℕ} {q₂ : Seat} → u ≡ s → y ≡ z → w ≡ m + 1 → q₂ ≡ q
+          → Room 3 u y (seatBehind w (seatInside q₂))
       fragment-shut e f g₁ g₂ =
           let far = l .of .far _ _ h in
           let fp = pa .far in
@@ -401,7 +420,13 @@ module _ {s : List ℕ} {at : ℕ} {q : Slot} (room : Room 3 s at q) {a : ℕ} (
           let short = room .short in
           let ends = fragment-ends in
           rw (e, f, g₁, g₂)
-          (record { short = short; inside = far .1; few = omega arith; held = omega arith })
+          (record {
+            short = short;
+            inside = far .1;
+            few = omega arith;
+            held = omega arith;
+            shallow = omega (arith, room .shallow);
+          })
 
       -- which begins behind it.
       pub fragment-behind : {x y : ℕ} → x ≡ at → y ≡ z → x ≤ y

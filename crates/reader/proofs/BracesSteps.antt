@@ -12,6 +12,7 @@ use borrow.Rule.Slice.PartMut.{putMid, midOf}
 use Rattle.rules.specs.Forest.{node, Forest, nil}
 use Rattle.rules.specs.Rule.{Rule, done, step, refuse, when, after, fromMark, nodeOf, _⨾_, _⇒_∣_}
 use Rattle.rules.specs.Parse.{Answer, got, trouble, pick, andThen, behind, byteAt, parse, parsed, readAt}
+use Rattle.rules.specs.Record.{rowWords}
 use Rattle.rules.proofs.Run.{goes, never, unmarked, calm, wide-got}
 use Rattle.rules.proofs.Got.{got-same, trouble-got, going}
 use Rattle.rules.proofs.Again.{after-no, after-got, seq-no, wrap-no, wrap-answer}
@@ -33,8 +34,7 @@ use Rattle.lex.specs.declared.Ans.{Ans}
 use Rattle.lex.specs.declared.Ans.the-variants.{Got, No}
 use Rattle.lex.proofs.Laws as Lex
 use Rattle.lex.proofs.Bare.{bare, flat-got, count-flat}
-use Rattle.table.specs.declared.Slot.{Slot}
-use Rattle.table.specs.Slot.{slotInside, slotBehind}
+use Rattle.table.specs.Slot.{Seat, seatInside, seatBehind}
 use Rattle.table.specs.Contract.{Start, Stored}
 use Rattle.table.specs.Reader.{Room, Made}
 use Rattle.table.proofs.Made.{made-as, made-no, made-lent, refused}
@@ -55,7 +55,7 @@ use Rattle.reader.proofs.ExpressionSteps.{reader-first, reader-leaf, re
 -- ---- which rules are nodes
 
 -- Bytes up to p, then G.
-past-upto : {s : List ℕ} {at p k : ℕ} {x : Rule} (G : Rule) (q : Slot) (i : ℕ) (t : List ℕ)
+past-upto : {s : List ℕ} {at p k : ℕ} {x : Rule} (G : Rule) (q : Seat) (i : ℕ) (t : List ℕ)
     → bare x ≡ true
     → Past p s x at k
     → Upto s (x ⨾ G) at q i t G p 0 t
@@ -145,8 +145,8 @@ module _ (s : List ℕ) (d at : ℕ) where
 
 -- ---- `{expression}` and `{...expression}` with their rows
 
-module _ (d : ℕ) {s : List ℕ} {at p : ℕ} (pa : Past p s pass at 1) (t : List ℕ) {a : ℕ} (st : Start (length t) 6 a)
-    {q q₁ : Slot} (eq : q₁ ≡ slotInside q) {r : Ans} {u : List ℕ} where
+module _ (d : ℕ) {s : List ℕ} {at p : ℕ} (pa : Past p s pass at 1) (t : List ℕ) {a : ℕ} (st : Start (length t) rowWords a)
+    {q q₁ : Seat} (eq : q₁ ≡ seatInside q) {r : Ans} {u : List ℕ} where
   -- `{expression}` is read, and its row was stored.
   pub held-made : Made r s (inContainer (within d)) p 2 q₁ 0 (midOf a (length t - a) t) u
       → {z m y x : ℕ} {t₁ t₂ : List ℕ} → r ≡ Got z m
@@ -173,7 +173,7 @@ module _ (d : ℕ) {s : List ℕ} {at p : ℕ} (pa : Past p s pass at 1) (t : Li
 
 -- ---- the inside of `{expression}`
 
-module _ (d : ℕ) {s : List ℕ} {at : ℕ} {c : ℕ} {q : Slot} (room : Room c s at q) {r : Ans} {t t₁ : List ℕ}
+module _ (d : ℕ) {s : List ℕ} {at : ℕ} {c : ℕ} {q : Seat} (room : Room c s at q) {r : Ans} {t t₁ : List ℕ}
     (l : Made r s (expression (within d)) at 1 q 0 t t₁) where
   held-begun : Upto s (inContainer (within d)) at q 0 t (expression (within d) ⨾ shutBraces) at 0 t
   unfolding inContainer
@@ -201,7 +201,7 @@ pub ruleset in-held-steps = (held-refuses, held-refuses-behind, held-is)
 
 -- ---- the inside of `{...expression}`
 
-module _ (d : ℕ) {s : List ℕ} {at : ℕ} {c : ℕ} {q : Slot} (room : Room c s at q) {t : List ℕ} {r : Ans}
+module _ (d : ℕ) {s : List ℕ} {at : ℕ} {c : ℕ} {q : Seat} (room : Room c s at q) {t : List ℕ} {r : Ans}
     (l : Leaf nothing r s dotsOn at 3) where
   spread-begun : Upto s (inSpread (within d)) at q 0 t (dotsOn ⨾ expression (within d) ⨾ closeBy (code "}")) at 0 t
   unfolding inSpread
@@ -277,7 +277,7 @@ empty-value {s} {at} {p} l y =
 
 module _ (d : ℕ) (s : List ℕ) (at : ℕ) {b : ℕ} (y : b ≡ byteAt s at) where
   -- A quoted string.
-  pub value-quoted : {q : Slot} {t t′ : List ℕ} {f : Bool} {r : Ans} → f ≡ quote b → f ≡ true
+  pub value-quoted : {q : Seat} {t t′ : List ℕ} {f : Bool} {r : Ans} → f ≡ quote b → f ≡ true
       → Made r s quoted at 2 q 0 t t′
       → Made r s (value (within d)) at 1 q 0 t t′
   unfolding value
@@ -296,12 +296,12 @@ module _ (d : ℕ) (s : List ℕ) (at : ℕ) {b : ℕ} (y : b ≡ byteAt s at) w
       in-braces = not-quoted ∙ Lex.when-yes s (suc (length s)) 0 at (is "{") _ _ (Lex.byte-is y x₂)
 
       -- No level is left.
-      pub value-deep : {q : Slot} {t t′ : List ℕ} → d ≡ 0 → Made (No 14 at at 0 0) s (value (within d)) at 1 q 0 t t′
+      pub value-deep : {q : Seat} {t t′ : List ℕ} → d ≡ 0 → Made (No 14 at at 0 0) s (value (within d)) at 1 q 0 t t′
       value-deep h = refused (in-braces ∙ L.value-braces-deep s at d h) refl
 
       module _ (deep : d ≡ 0 → ⊥) {r : Ans} (l : Leaf nothing r s pass at 1) where
         -- The blanks refuse.
-        pub value-refuses : {q : Slot} {t t′ : List ℕ} {z a b g w : ℕ} → r ≡ No z a b g w
+        pub value-refuses : {q : Seat} {t t′ : List ℕ} {z a b g w : ℕ} → r ≡ No z a b g w
             → Made r s (value (within d)) at 1 q 0 t t′
         value-refuses h =
             refused (in-braces ∙ L.value-braces-is s at d deep
@@ -314,14 +314,14 @@ module _ (d : ℕ) (s : List ℕ) (at : ℕ) {b : ℕ} (y : b ≡ byteAt s at) w
               in-braces ∙ L.value-braces-is s at d deep ∙ passed-over (leaf-passes K.goes-pass l h) (is "}") _ _
 
           -- They are empty: 11.
-          pub value-empty : {q : Slot} {t t′ : List ℕ} {z : ℕ} → b₂ ≡ code "}" → z ≡ p + 1
+          pub value-empty : {q : Seat} {t t′ : List ℕ} {z : ℕ} → b₂ ≡ code "}" → z ≡ p + 1
               → Made (No 11 at z 0 0) s (value (within d)) at 1 q 0 t t′
           value-empty x₃ f =
               let e = Lex.byte-is y₂ x₃ in
               rw f (refused (braces-there ∙ rw e (empty-value (leaf-passes K.goes-pass l h) (sym y₂ ∙ x₃))) refl)
 
           -- `{expression}`.
-          pub value-held : {q : Slot} {t t′ : List ℕ} {r₂ : Ans} → (b₂ ≡ code "}" → ⊥)
+          pub value-held : {q : Seat} {t t′ : List ℕ} {r₂ : Ans} → (b₂ ≡ code "}" → ⊥)
               → Made r₂ s (container (within (d - 1))) at 3 q 0 t t′
               → Made r₂ s (value (within d)) at 1 q 0 t t′
           value-held x₃ l₂ =
@@ -334,7 +334,7 @@ module _ (d : ℕ) (s : List ℕ) (at : ℕ) {b : ℕ} (y : b ≡ byteAt s at) w
       no-braces = not-quoted ∙ Lex.when-no s (suc (length s)) 0 at (is "{") _ _ (Lex.byte-not y x₂)
 
       -- An element or a fragment.
-      pub value-element : {q : Slot} {t t′ : List ℕ} {r : Ans} → b ≡ code "<"
+      pub value-element : {q : Seat} {t t′ : List ℕ} {r : Ans} → b ≡ code "<"
           → Made r s (within d .element ⨾ noSibling unexpected) at 1 q 0 t t′
           → Made r s (value (within d)) at 1 q 0 t t′
       value-element x₃ l =
@@ -342,7 +342,7 @@ module _ (d : ℕ) (s : List ℕ) (at : ℕ) {b : ℕ} (y : b ≡ byteAt s at) w
           (sym (no-braces ∙ Lex.when-yes s (suc (length s)) 0 at (is "<") _ need (Lex.byte-is y x₃))) (omega arith)
 
       -- None of these.
-      pub value-none : {q : Slot} {t : List ℕ} {r : Ans} → (b ≡ code "<" → ⊥) → Leaf nothing r s need at 0
+      pub value-none : {q : Seat} {t : List ℕ} {r : Ans} → (b ≡ code "<" → ⊥) → Leaf nothing r s need at 0
           → Made r s (value (within d)) at 1 q 0 t t
       value-none x₃ l = leaf-made-as (value (within d)) 1 R.bare-need
           (Lex.leaf-refuses {k = 1} l refl (Lex.need-fails s at))
@@ -421,7 +421,7 @@ module _ (d : ℕ) (s : List ℕ) (at : ℕ) where
       (λ g. value-cut ∙ seq-no s (suc (length s)) (blanks ⨾ expect "=" ⨾ blanks) 0 at g (value (within d)))
       (λ g. trouble-got (sym g)) (λ n₁ a₁ b₁ c₁ e₁ g. g) f
 
-module _ (d : ℕ) {s : List ℕ} {at : ℕ} {q : Slot} {r : Ans} {t t₁ : List ℕ}
+module _ (d : ℕ) {s : List ℕ} {at : ℕ} {q : Seat} {r : Ans} {t t₁ : List ℕ}
     (l : Made r s attributeName at 1 q 0 t t₁) where
   -- The name refuses.
   pub in-attr-refuses : {t′ : List ℕ} {x a b g y : ℕ} → r ≡ No x a b g y
@@ -451,7 +451,7 @@ module _ (d : ℕ) {s : List ℕ} {at : ℕ} {q : Slot} {r : Ans} {t t₁ : List
           rw (f, g)
           (upto-made 1 (upto-as in-attr-named {h = done} (initial-stops d s e (told-stop l₂ h₂ n))) (omega arith))
 
-      module _ (n : j ≡ 0 → ⊥) {a : ℕ} (st : Start (length t₁) (6 * k) a) {q₂ : Slot} (eq : q₂ ≡ slotBehind k q)
+      module _ (n : j ≡ 0 → ⊥) {a : ℕ} (st : Start (length t₁) (rowWords * k) a) {q₂ : Seat} (eq : q₂ ≡ seatBehind k q)
           {r₃ : Ans} {u : List ℕ} (l₃ : Made r₃ s (value (within d)) p 1 q₂ 0 (midOf a (length t₁ - a) t₁) u) where
         in-attr-value : Upto s (inAttribute (within d)) at q 0 t (value (within d)) p k t₁
         in-attr-value =
@@ -493,12 +493,12 @@ module _ (d : ℕ) (s : List ℕ) (at : ℕ) {b : ℕ} (y : b ≡ byteAt s at) (
   attr-braces = Lex.when-yes s (suc (length s)) 0 at (is "{") (within d .spreadBraces) _ (Lex.byte-is y x)
 
   -- No level is left.
-  pub attr-deep : {q : Slot} {t t′ : List ℕ} → d ≡ 0 → Made (No 14 at at 0 0) s (attribute (within d)) at 1 q 0 t t′
+  pub attr-deep : {q : Seat} {t t′ : List ℕ} → d ≡ 0 → Made (No 14 at at 0 0) s (attribute (within d)) at 1 q 0 t t′
   attr-deep h = refused (attr-braces ∙ L.spread-braces-deep s at d h) refl
 
   module _ (deep : d ≡ 0 → ⊥) {r : Ans} (l : Leaf nothing r s pass at 1) where
     -- The blanks refuse.
-    pub attr-refuses : {q : Slot} {t t′ : List ℕ} {n a b g z : ℕ} → r ≡ No n a b g z
+    pub attr-refuses : {q : Seat} {t t′ : List ℕ} {n a b g z : ℕ} → r ≡ No n a b g z
         → Made r s (attribute (within d)) at 1 q 0 t t′
     unfolding spread
     attr-refuses h =
@@ -506,7 +506,7 @@ module _ (d : ℕ) (s : List ℕ) (at : ℕ) {b : ℕ} (y : b ≡ byteAt s at) (
         (seq-no s (suc (length s)) pass 0 at (Lex.leaf-no l h) _) (λ o. node Kind.spreadAttribute 0)) h
 
     -- The spread decides.
-    pub attr-spread : {q : Slot} {t t′ : List ℕ} {p j : ℕ} {r₂ : Ans} → r ≡ Got p j
+    pub attr-spread : {q : Seat} {t t′ : List ℕ} {p j : ℕ} {r₂ : Ans} → r ≡ Got p j
         → Made r₂ s (spread Kind.spreadAttribute (within (d - 1))) at 3 q 0 t t′
         → Made r₂ s (attribute (within d)) at 1 q 0 t t′
     attr-spread h l₂ =

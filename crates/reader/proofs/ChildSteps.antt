@@ -32,14 +32,13 @@ use Rattle.lex.specs.Contract.{view, outOf, nothing, Leaf}
 use Rattle.lex.specs.declared.Ans.{Ans}
 use Rattle.lex.specs.declared.Ans.the-variants.{Got, No}
 use Rattle.lex.proofs.Laws as Lex
-use Rattle.table.specs.declared.Slot.{Slot}
-use Rattle.table.specs.Slot.{slotBehind, rowsFrom}
+use Rattle.table.specs.Slot.{Seat, seatBehind, rowsFrom}
 use Rattle.table.specs.Contract.{Start}
 use Rattle.table.specs.Reader.{counted, Room, Made}
 use Rattle.table.proofs.Made.{made-as, made-no, made-got, made-lent, refused, made-done}
 use Rattle.table.proofs.Upto.{Upto, upto-begin, upto-as, upto-more, upto-count, loop-on, loop-out, loop-stops}
 use Rattle.table.proofs.Upto.{upto-made}
-use Rattle.table.proofs.Upto.{same-slot}
+use Rattle.table.proofs.Upto.{same-seat}
 use Rattle.reader.specs.Contract.{ChildMade}
 use Rattle.token.proofs.Rules as K
 use Rattle.reader.proofs.Rules as R
@@ -50,7 +49,7 @@ use Rattle.reader.proofs.BracesSteps.{passed-over, leaf-passes}
 -- ---- one child
 
 -- A reader of what stands here has made it.
-child-of : {r : Ans} {s : List ℕ} {g : Rule} (n : Inner) {at k : ℕ} {q : Slot} {t t′ : List ℕ}
+child-of : {r : Ans} {s : List ℕ} {g : Rule} (n : Inner) {at k : ℕ} {q : Seat} {t t′ : List ℕ}
     → Made r s g at k q 0 t t′
     → 1 ≤ k
     → goes g ≡ true
@@ -63,7 +62,7 @@ child-of {r} {s} {g} n {at} l b go e = record {
 }
 
 -- What stands here refuses.
-child-no : {r : Ans} {s : List ℕ} (n : Inner) {at : ℕ} {q : Slot} {t t′ : List ℕ} {x a b c d : ℕ}
+child-no : {r : Ans} {s : List ℕ} (n : Inner) {at : ℕ} {q : Seat} {t t′ : List ℕ} {x a b c d : ℕ}
     → readAt s (child n) at ≡ trouble x a b c d
     → r ≡ No x a b c d
     → ChildMade r s n at q t t′
@@ -75,7 +74,7 @@ child-no {r} {s} n {at} e h = record {
 }
 
 -- The children end here.
-child-stops : {s : List ℕ} (n : Inner) {at : ℕ} {q : Slot} {t : List ℕ} → readAt s (child n) at ≡ got false nil at
+child-stops : {s : List ℕ} (n : Inner) {at : ℕ} {q : Seat} {t : List ℕ} → readAt s (child n) at ≡ got false nil at
     → at ≤ length s
     → ChildMade (Got at 0) s n at q t t
 unfolding count Rattle.rules.specs.Record.records
@@ -132,7 +131,7 @@ module _ (d : ℕ) (s : List ℕ) (at : ℕ) {b : ℕ} (y : b ≡ byteAt s at) w
   not-tag h x = not-last h ∙ Lex.when-no s (suc (length s)) 0 at (is "<") _ (tagless d) (sym (ap (is "<") y) ∙ x)
 
   -- A text.
-  pub child-text : {q : Slot} {t t′ : List ℕ} {f : Bool} {r : Ans} → f ≡ inText b → f ≡ true
+  pub child-text : {q : Seat} {t t′ : List ℕ} {f : Bool} {r : Ans} → f ≡ inText b → f ≡ true
       → Made r s text at 1 q 0 t t′
       → ChildMade r s (within d) at q t t′
   child-text e x l =
@@ -149,7 +148,7 @@ module _ (d : ℕ) (s : List ℕ) (at : ℕ) {b : ℕ} (y : b ≡ byteAt s at) w
 
     module _ {r : Ans} (l : Leaf nothing r s pass at 1) where
       -- The blanks behind the `<` refuse.
-      pub child-refuses : {q : Slot} {t t′ : List ℕ} {n a c g z : ℕ} → r ≡ No n a c g z
+      pub child-refuses : {q : Seat} {t t′ : List ℕ} {n a c g z : ℕ} → r ≡ No n a c g z
           → ChildMade r s (within d) at q t t′
       child-refuses h =
           child-no (within d) (at-less ∙ after-no s (suc (length s)) pass 0 at (Lex.leaf-no l h) (is "/") _ _) h
@@ -160,7 +159,7 @@ module _ (d : ℕ) (s : List ℕ) (at : ℕ) {b : ℕ} (y : b ≡ byteAt s at) w
         behind-less = at-less ∙ passed-over (leaf-passes K.goes-pass l h) (is "/") _ _
 
         -- A closing tag: the children end before it.
-        pub child-closing : {q : Slot} {t : List ℕ} {z : ℕ} → b₂ ≡ code "/" → z ≡ at
+        pub child-closing : {q : Seat} {t : List ℕ} {z : ℕ} → b₂ ≡ code "/" → z ≡ at
             → ChildMade (Got z 0) s (within d) at q t t
         unfolding parse
         child-closing x₂ f =
@@ -169,7 +168,7 @@ module _ (d : ℕ) (s : List ℕ) (at : ℕ) {b : ℕ} (y : b ≡ byteAt s at) w
             rw f (child-stops (within d) (behind-less ∙ rw e) (omega arith))
 
         -- An element or a fragment.
-        pub child-element : {q : Slot} {t t′ : List ℕ} {r₂ : Ans} → (b₂ ≡ code "/" → ⊥)
+        pub child-element : {q : Seat} {t t′ : List ℕ} {r₂ : Ans} → (b₂ ≡ code "/" → ⊥)
             → Made r₂ s (within d .element) at 1 q 0 t t′
             → ChildMade r₂ s (within d) at q t t′
         child-element x₂ l₂ =
@@ -185,12 +184,12 @@ module _ (d : ℕ) (s : List ℕ) (at : ℕ) {b : ℕ} (y : b ≡ byteAt s at) w
           ∙ Lex.when-yes s (suc (length s)) 0 at (is "{") (within d .childBraces) _ (Lex.byte-is y x₂)
 
       -- No level is left.
-      pub child-deep : {q : Slot} {t t′ : List ℕ} → d ≡ 0 → ChildMade (No 14 at at 0 0) s (within d) at q t t′
+      pub child-deep : {q : Seat} {t t′ : List ℕ} → d ≡ 0 → ChildMade (No 14 at at 0 0) s (within d) at q t t′
       child-deep h = child-no (within d) (at-brace ∙ L.child-braces-deep s at d h) refl
 
       module _ (deep : d ≡ 0 → ⊥) {r : Ans} (l : Leaf nothing r s pass at 1) where
         -- The blanks behind the `{` refuse.
-        pub child-braces-refuse : {q : Slot} {t t′ : List ℕ} {n a c g z : ℕ} → r ≡ No n a c g z
+        pub child-braces-refuse : {q : Seat} {t t′ : List ℕ} {n a c g z : ℕ} → r ≡ No n a c g z
             → ChildMade r s (within d) at q t t′
         child-braces-refuse h =
             child-no (within d) (at-brace ∙ L.child-braces-is s at d deep
@@ -207,7 +206,7 @@ module _ (d : ℕ) (s : List ℕ) (at : ℕ) {b : ℕ} (y : b ≡ byteAt s at) w
               ∙ ap (pick (is "}" (byteAt s p)) (readAt s emptyBraces at)) (passed-over passed (is ".") _ _)
 
           -- They are empty.
-          pub child-empty : {q : Slot} {t t′ : List ℕ} {r₂ : Ans} → b₂ ≡ code "}" → Made r₂ s emptyBraces at 2 q 0 t t′
+          pub child-empty : {q : Seat} {t t′ : List ℕ} {r₂ : Ans} → b₂ ≡ code "}" → Made r₂ s emptyBraces at 2 q 0 t t′
               → ChildMade r₂ s (within d) at q t t′
           child-empty x₃ l₂ =
               let e = Lex.byte-is y₂ x₃ in
@@ -215,7 +214,7 @@ module _ (d : ℕ) (s : List ℕ) (at : ℕ) {b : ℕ} (y : b ≡ byteAt s at) w
 
           module _ (x₃ : b₂ ≡ code "}" → ⊥) where
             -- `{...expression}`.
-            pub child-spread : {q : Slot} {t t′ : List ℕ} {r₂ : Ans} → b₂ ≡ code "."
+            pub child-spread : {q : Seat} {t t′ : List ℕ} {r₂ : Ans} → b₂ ≡ code "."
                 → Made r₂ s (spread Kind.spreadChild (within (d - 1))) at 3 q 0 t t′
                 → ChildMade r₂ s (within d) at q t t′
             child-spread x₄ l₂ =
@@ -224,7 +223,7 @@ module _ (d : ℕ) (s : List ℕ) (at : ℕ) {b : ℕ} (y : b ≡ byteAt s at) w
                 child-of (within d) l₂ (omega arith) (R.goes-spread (d - 1) Kind.spreadChild) (behind-brace ∙ rw (e, f))
 
             -- `{expression}`.
-            pub child-held : {q : Slot} {t t′ : List ℕ} {r₂ : Ans} → (b₂ ≡ code "." → ⊥)
+            pub child-held : {q : Seat} {t t′ : List ℕ} {r₂ : Ans} → (b₂ ≡ code "." → ⊥)
                 → Made r₂ s (container (within (d - 1))) at 3 q 0 t t′
                 → ChildMade r₂ s (within d) at q t t′
             child-held x₄ l₂ =
@@ -234,7 +233,7 @@ module _ (d : ℕ) (s : List ℕ) (at : ℕ) {b : ℕ} (y : b ≡ byteAt s at) w
 
     module _ (x₂ : b ≡ code "{" → ⊥) where
       -- The input ends.
-      pub child-last : {q : Slot} {t : List ℕ} {c : ℕ} → Room c s at q → b ≡ 256
+      pub child-last : {q : Seat} {t : List ℕ} {c : ℕ} → Room c s at q → b ≡ 256
           → ChildMade (Got at 0) s (within d) at q t t
       unfolding child parse
       child-last room h =
@@ -242,7 +241,7 @@ module _ (d : ℕ) (s : List ℕ) (at : ℕ) {b : ℕ} (y : b ≡ byteAt s at) w
           child-stops (within d) (rw e) (room .inside)
 
       -- A stray byte.
-      pub child-stray : {q : Slot} {t t′ : List ℕ} {f : Bool} → f ≡ inText b → f ≡ false → (b ≡ 256 → ⊥)
+      pub child-stray : {q : Seat} {t t′ : List ℕ} {f : Bool} → f ≡ inText b → f ≡ false → (b ≡ 256 → ⊥)
           → ChildMade (No 6 at at 0 0) s (within d) at q t t′
       unfolding parse
       child-stray e h g =
@@ -269,9 +268,9 @@ pub ruleset child-steps = (
 
 -- ---- the loop over them
 
-module _ (d : ℕ) {s : List ℕ} {c at : ℕ} {q : Slot} {t₀ : List ℕ} {p m : ℕ} (t : List ℕ)
-    (v : Loop c s (children (within d)) at q t₀ p m t) {a : ℕ} (st : Start (length t) (6 * m) a) {q₂ : Slot}
-    (eq : q₂ ≡ slotBehind m q) {r : Ans}
+module _ (d : ℕ) {s : List ℕ} {c at : ℕ} {q : Seat} {t₀ : List ℕ} {p m : ℕ} (t : List ℕ)
+    (v : Loop c s (children (within d)) at q t₀ p m t) {a : ℕ} (st : Start (length t) (rowWords * m) a) {q₂ : Seat}
+    (eq : q₂ ≡ seatBehind m q) {r : Ans}
     {u : List ℕ} (l : ChildMade r s (within d) p q₂ (midOf a (length t - a) t) u) where
   kids-left : Upto s (children (within d)) at q 0 t₀ (many (child (within d))) p m t
   unfolding children
@@ -289,9 +288,9 @@ module _ (d : ℕ) {s : List ℕ} {c at : ℕ} {q : Slot} {t₀ : List ℕ} {p m
     kids-end {t′} e w f g =
         let ends = l .stays k (h ∙ ap (λ (i : ℕ). Got i k) e) in
         let same : t′ ≡ t = made-lent t st (l .made) w .of .wrote _ _ h
-        ∙ ap (λ (o : Answer). sets t (6 * m) (rowsFrom q₂ p (outOf o))) ends in
-        let turn : Upto s (child (within d)) p (slotBehind m q) (6 * m) t stop p 0 t =
-        upto-as (upto-begin (child (within d)) (slotBehind m q) (6 * m) t (v .here .inside)) ends in
+        ∙ ap (λ (o : Answer). sets t (rowWords * m) (rowsFrom q₂ p (outOf o))) ends in
+        let turn : Upto s (child (within d)) p (seatBehind m q) (rowWords * m) t stop p 0 t =
+        upto-as (upto-begin (child (within d)) (seatBehind m q) (rowWords * m) t (v .here .inside)) ends in
         let o = loop-out refl (omega arith) kids-left turn in
         let far = v .here .ends in
         rw (f, g, same) (upto-made 0 (upto-count o {k = m} (omega arith)) (omega arith))
@@ -311,15 +310,15 @@ module _ (d : ℕ) {s : List ℕ} {c at : ℕ} {q : Slot} {t₀ : List ℕ} {p m
           let read = l .goes z k h n in
           let all : k ≡ count o = same-count (h) (l .made .of .is ∙ ap (view counted) read) in
           let wrote = made-lent t st (l .made) w .of .wrote _ _ h in
-          let turn : Upto s (child (within d)) p (slotBehind m q) (6 * m) t done z (0 + k) t′ =
-          upto-more (upto-begin (child (within d)) (slotBehind m q) (6 * m) t (v .here .inside)) {h = done} o
+          let turn : Upto s (child (within d)) p (seatBehind m q) (rowWords * m) t done z (0 + k) t′ =
+          upto-more (upto-begin (child (within d)) (seatBehind m q) (rowWords * m) t (v .here .inside)) {h = done} o
           (read ∙ ap (λ (y : Forest). got true y z) (sym (behind-nil o)))
           (wide-got s (suc (length s)) (child (within d)) 0 p read) (far .1) all (far .0)
-          (wrote ∙ (λ i. sets t (row i) (rowsFrom ((eq ∙ same-slot (slotBehind m q)) i) p o))) in
+          (wrote ∙ (λ i. sets t (row i) (rowsFrom ((eq ∙ same-seat (seatBehind m q)) i) p o))) in
           let next = loop-on refl (omega arith) kids-left (upto-count turn {k = k} (omega arith)) (omega arith) in
           rw (f, g) (record { room = v .room; here = next })
         where
-          row : 6 * m ≡ 6 * m + rowWords * 0
+          row : rowWords * m ≡ rowWords * m + rowWords * 0
           row = omega arith
 
           same-count : {x : ℕ} → r ≡ Got z k → r ≡ Got z x → k ≡ x

@@ -21,7 +21,7 @@ use Rattle.lex.specs.Contract.{nothing, Leaf, Past}
 use Rattle.lex.specs.declared.Ans.{Ans}
 use Rattle.lex.specs.declared.Ans.the-variants.{Got, No}
 use Rattle.lex.proofs.Laws as Lex
-use Rattle.table.specs.declared.Slot.{Slot}
+use Rattle.table.specs.Slot.{Seat}
 use Rattle.table.specs.Reader.{Room, Made}
 use Rattle.table.proofs.Made.{made-as, refused}
 use Rattle.table.proofs.Upto.{Upto, upto-begin}
@@ -53,14 +53,14 @@ element-no s at (suc d) h =
 
 module _ (d : ℕ) {s : List ℕ} {at : ℕ} where
   -- No level is left for it.
-  pub element-too-deep : {q : Slot} {t : List ℕ} {r : Ans} → d ≡ 0 → Leaf nothing r s elementTooDeep at 1
+  pub element-too-deep : {q : Seat} {t : List ℕ} {r : Ans} → d ≡ 0 → Leaf nothing r s elementTooDeep at 1
       → Made r s (within d .element) at 1 q 0 t t
   element-too-deep h l =
       leaf-made-as (within d .element) 1 K.bare-too-deep l (sym (L.element-deep s at d h)) (omega arith)
 
   module _ (deep : d ≡ 0 → ⊥) {a : ℕ} (l : Past a s pass at 1) {b : ℕ} (y : b ≡ byteAt s a) where
     -- A fragment.
-    pub element-fragment : {q : Slot} {t t′ : List ℕ} {r : Ans} → b ≡ code ">"
+    pub element-fragment : {q : Seat} {t t′ : List ℕ} {r : Ans} → b ≡ code ">"
         → Made r s (fragmentIn (d - 1) (within (d - 1))) at 1 q 0 t t′
         → Made r s (within d .element) at 1 q 0 t t′
     element-fragment x l₂ =
@@ -69,7 +69,7 @@ module _ (d : ℕ) {s : List ℕ} {at : ℕ} where
         (omega arith)
 
     -- An element with a name.
-    pub element-named : {q : Slot} {t t′ : List ℕ} {r : Ans} → (b ≡ code ">" → ⊥)
+    pub element-named : {q : Seat} {t t′ : List ℕ} {r : Ans} → (b ≡ code ">" → ⊥)
         → Made r s (namedIn (d - 1) (within (d - 1))) at 1 q 0 t t′
         → Made r s (within d .element) at 1 q 0 t t′
     element-named x l₂ =
@@ -81,7 +81,7 @@ pub ruleset element-steps = (element-too-deep, element-fragment, element-named)
 
 -- ---- one that is no child
 
-module _ (d n : ℕ) {s : List ℕ} {at : ℕ} {c : ℕ} {q : Slot} (room : Room c s at q) {t : List ℕ} {r : Ans}
+module _ (d n : ℕ) {s : List ℕ} {at : ℕ} {c : ℕ} {q : Seat} (room : Room c s at q) {t : List ℕ} {r : Ans}
     (l : Leaf nothing r s pass at 1) where
   -- The blanks refuse.
   pub lone-refuses : {t′ : List ℕ} {x a b g y : ℕ} → r ≡ No x a b g y

@@ -27,14 +27,13 @@ use Rattle.lex.specs.declared.Ans.{Ans}
 use Rattle.lex.specs.declared.Ans.the-variants.{Got, No}
 use Rattle.lex.proofs.Laws as Lex
 use Rattle.lex.proofs.Bare.{bare, goes-blanks, bare-blanks}
-use Rattle.table.specs.declared.Slot.{Slot}
-use Rattle.table.specs.Slot.{slotBehind}
+use Rattle.table.specs.Slot.{Seat, seatBehind}
 use Rattle.table.specs.Contract.{Start}
 use Rattle.table.specs.Reader.{Room, Made}
 use Rattle.table.proofs.Made.{made-as, made-no, made-lent, refused}
 use Rattle.table.proofs.Upto.{Upto, upto-begin, upto-as, upto-count, upto-when, upto-else, look-no, look-yes, look-else}
 use Rattle.table.proofs.Upto.{leaf-stops, leaf-goes, made-stops, made-goes, last-leaf, last-leaf-stops}
-use Rattle.table.proofs.Upto.{upto-bare, last-made, last-made-stops, upto-made, handed-up, same-slot}
+use Rattle.table.proofs.Upto.{upto-bare, last-made, last-made-stops, upto-made, handed-up, same-seat}
 use Rattle.tag.specs.Token.{closeBy}
 use Rattle.tag.proofs.Rules.{goes-close, bare-close, goes-expect}
 use Rattle.token.specs.Token.{parted, dotWord}
@@ -48,19 +47,19 @@ use Rattle.reader.proofs.Steps.{leaf-made-as, made-began}
 
 -- None is left: 14 here.
 too-deep : {s : List ℕ} {G : Rule} {at : ℕ} → readAt s G at ≡ trouble tooDeep at at 0 0
-    → {q : Slot} {t t′ : List ℕ} {j : ℕ} → Made (No 14 at at 0 0) s G at j q 0 t t′
+    → {q : Seat} {t t′ : List ℕ} {j : ℕ} → Made (No 14 at at 0 0) s G at j q 0 t t′
 too-deep e = refused e refl
 
 -- ---- a reader, then a leaf
 
-module _ {s : List ℕ} {G X Y : Rule} {at : ℕ} {q : Slot} {t : List ℕ} {p : ℕ}
+module _ {s : List ℕ} {G X Y : Rule} {at : ℕ} {q : Seat} {t : List ℕ} {p : ℕ}
     (v : Upto s G at q 0 t (X ⨾ Y) p 0 t) (gx : goes X ≡ true) {r : Ans} {k : ℕ} {t₁ : List ℕ}
     (l : Made r s X p k q 0 t t₁) where
   -- The reader is through: the leaf is left.
   pub reader-first : {e m : ℕ} → r ≡ Got e m → Upto s G at q 0 t Y e m t₁
   reader-first {m = m} h =
       let z : 0 + rowWords * 0 ≡ 0 = omega arith in
-      upto-count (made-goes v l gx (same-slot q) (sym z) h) {k = m} (omega arith)
+      upto-count (made-goes v l gx (same-seat q) (sym z) h) {k = m} (omega arith)
 
   module _ (gy : goes Y ≡ true) (by : bare Y ≡ true) {e m : ℕ} (h : r ≡ Got e m) {r₂ : Ans} {k₂ : ℕ}
       (l₂ : Leaf nothing r₂ s Y e k₂) where
@@ -79,7 +78,7 @@ module _ {s : List ℕ} {G X Y : Rule} {at : ℕ} {q : Slot} {t : List ℕ} {p :
 abbrev grouped : (c d : ℕ) → Rule
 grouped c d = pass ⨾ conditional (within (d - 1)) ⨾ closeBy c
 
-module _ (c d : ℕ) {s : List ℕ} {at : ℕ} {q : Slot} {t : List ℕ} where
+module _ (c d : ℕ) {s : List ℕ} {at : ℕ} {q : Seat} {t : List ℕ} where
   -- No level is left.
   pub group-deep : {t′ : List ℕ} → d ≡ 0 → Made (No 14 at at 0 0) s (groupBy c d) at 1 q 0 t t′
   group-deep h = too-deep (L.group-deep s at d h c)
@@ -122,7 +121,7 @@ pub ruleset group-steps = (group-deep, group-refuses, group-refuses-inside, grou
 
 -- ---- `!` and `-`
 
-module _ (d : ℕ) {s : List ℕ} {at : ℕ} {q : Slot} {t : List ℕ} where
+module _ (d : ℕ) {s : List ℕ} {at : ℕ} {q : Seat} {t : List ℕ} where
   -- No level is left.
   pub prefix-deep : {t′ : List ℕ} → d ≡ 0 → Made (No 14 at at 0 0) s (within d .prefix) at 1 q 0 t t′
   prefix-deep h = too-deep (L.prefix-deep s at d h)
@@ -146,7 +145,7 @@ pub ruleset prefix-steps = (prefix-deep, prefix-refuses, prefix-is)
 -- ---- calls
 
 -- A byte is left, and it is there: nothing more is left.
-pub step-last : {s : List ℕ} {G : Rule} {at : ℕ} {q : Slot} {i : ℕ} {t₀ : List ℕ} {p m : ℕ} {t : List ℕ}
+pub step-last : {s : List ℕ} {G : Rule} {at : ℕ} {q : Seat} {i : ℕ} {t₀ : List ℕ} {p m : ℕ} {t : List ℕ}
     → Upto s G at q i t₀ step p m t
     → p < length s
     → Upto s G at q i t₀ done (p + 1) m t
@@ -158,7 +157,7 @@ step-last {s} {p = p} v h =
 abbrev called : ℕ → Rule
 called d = when (is ")") step (arguments (within (d - 1)))
 
-module _ (d : ℕ) {s : List ℕ} {at : ℕ} {q : Slot} {t : List ℕ} where
+module _ (d : ℕ) {s : List ℕ} {at : ℕ} {q : Seat} {t : List ℕ} where
   -- No level is left.
   pub call-deep : {t′ : List ℕ} → d ≡ 0 → Made (No 14 at at 0 0) s (within d .call) at 1 q 0 t t′
   call-deep h = too-deep (L.call-deep s at d h)
@@ -194,14 +193,14 @@ module _ (d : ℕ) {s : List ℕ} {at : ℕ} {q : Slot} {t : List ℕ} where
 pub ruleset call-steps = (call-deep, call-refuses, call-empty, call-is)
 
 -- Conditionals and `)`.
-module _ (d : ℕ) {s : List ℕ} {at : ℕ} {q : Slot} {r : Ans} {t t₁ : List ℕ}
+module _ (d : ℕ) {s : List ℕ} {at : ℕ} {q : Seat} {r : Ans} {t t₁ : List ℕ}
     (l : Made r s (conditional (within d)) at 1 q 0 t t₁) where
   -- The first refuses.
   pub args-refuses : {t′ : List ℕ} {x a b g y : ℕ} → r ≡ No x a b g y → Made r s (arguments (within d)) at 1 q 0 t t′
   unfolding arguments
   args-refuses h = refused (seq-no s (suc (length s)) (conditional (within d)) 0 at (made-no l h) _) h
 
-  module _ {e k : ℕ} (h : r ≡ Got e k) {a : ℕ} (st : Start (length t₁) (6 * k) a) {q₂ : Slot} (eq : q₂ ≡ slotBehind k q)
+  module _ {e k : ℕ} (h : r ≡ Got e k) {a : ℕ} (st : Start (length t₁) (rowWords * k) a) {q₂ : Seat} (eq : q₂ ≡ seatBehind k q)
       {r₂ : Ans} {u : List ℕ} (l₂ : Made r₂ s (many (argumentTurn (within d))) e 0 q₂ 0 (midOf a (length t₁ - a) t₁) u)
     where
       args-begun : Upto s (arguments (within d)) at q 0 t
@@ -247,7 +246,7 @@ pub ruleset args-steps = (args-refuses, args-refuses-inside, args-refuses-behind
 
 module _ (d : ℕ) (s : List ℕ) (at : ℕ) {b : ℕ} (y : b ≡ byteAt s at) where
   -- A name.
-  pub primary-word : {q : Slot} {t : List ℕ} {f : Bool} {r : Ans} → f ≡ opensName b → f ≡ true
+  pub primary-word : {q : Seat} {t : List ℕ} {f : Bool} {r : Ans} → f ≡ opensName b → f ≡ true
       → Leaf nothing r s primaryWord at 1
       → Made r s (primary (within d)) at 1 q 0 t t
   unfolding primary
@@ -262,7 +261,7 @@ module _ (d : ℕ) (s : List ℕ) (at : ℕ) {b : ℕ} (y : b ≡ byteAt s at) w
     not-word = Lex.when-no s (suc (length s)) 0 at opensName primaryWord _ (Lex.tested opensName y e x)
 
     -- A number.
-    pub primary-number : {q : Slot} {t : List ℕ} {f₂ : Bool} {r : Ans} → f₂ ≡ digit b → f₂ ≡ true
+    pub primary-number : {q : Seat} {t : List ℕ} {f₂ : Bool} {r : Ans} → f₂ ≡ digit b → f₂ ≡ true
         → Leaf nothing r s number at 1
         → Made r s (primary (within d)) at 1 q 0 t t
     primary-number e₂ x₂ l =
@@ -275,7 +274,7 @@ module _ (d : ℕ) (s : List ℕ) (at : ℕ) {b : ℕ} (y : b ≡ byteAt s at) w
       not-number = not-word ∙ Lex.when-no s (suc (length s)) 0 at digit number _ (Lex.tested digit y e₂ x₂)
 
       -- A string.
-      pub primary-string : {q : Slot} {t : List ℕ} {f₃ : Bool} {r : Ans} → f₃ ≡ quote b → f₃ ≡ true
+      pub primary-string : {q : Seat} {t : List ℕ} {f₃ : Bool} {r : Ans} → f₃ ≡ quote b → f₃ ≡ true
           → Leaf nothing r s string at 2
           → Made r s (primary (within d)) at 1 q 0 t t
       primary-string e₃ x₃ l =
@@ -288,7 +287,7 @@ module _ (d : ℕ) (s : List ℕ) (at : ℕ) {b : ℕ} (y : b ≡ byteAt s at) w
         not-string = not-number ∙ Lex.when-no s (suc (length s)) 0 at quote string _ (Lex.tested quote y e₃ x₃)
 
         -- `(conditional)`.
-        pub primary-group : {q : Slot} {t t′ : List ℕ} {r : Ans}
+        pub primary-group : {q : Seat} {t t′ : List ℕ} {r : Ans}
             → b ≡ code "(" → Made r s (groupBy (code ")") d) at 1 q 0 t t′
             → Made r s (primary (within d)) at 1 q 0 t t′
         primary-group x₄ l =
@@ -297,7 +296,7 @@ module _ (d : ℕ) (s : List ℕ) (at : ℕ) {b : ℕ} (y : b ≡ byteAt s at) w
             ∙ L.paren-group s at d)) (omega arith)
 
         -- None of these.
-        pub primary-none : {q : Slot} {t : List ℕ} {r : Ans} → (b ≡ code "(" → ⊥) → Leaf nothing r s need at 0
+        pub primary-none : {q : Seat} {t : List ℕ} {r : Ans} → (b ≡ code "(" → ⊥) → Leaf nothing r s need at 0
             → Made r s (primary (within d)) at 1 q 0 t t
         primary-none x₄ l = leaf-made-as (primary (within d)) 1 R.bare-need
             (Lex.leaf-refuses {k = 1} l refl (Lex.need-fails s at))
@@ -314,7 +313,7 @@ bracketed d = when (is "[") ⇒ within d .bracket ∣ when (is "(") ⇒ within d
 
 module _ (d : ℕ) (s : List ℕ) (at : ℕ) {b : ℕ} (y : b ≡ byteAt s at) where
   -- `.name`.
-  pub tail-word : {q : Slot} {t : List ℕ} {r : Ans} → b ≡ code "." → Leaf nothing r s dotWord at 1
+  pub tail-word : {q : Seat} {t : List ℕ} {r : Ans} → b ≡ code "." → Leaf nothing r s dotWord at 1
       → Made r s (tailOf (within d)) at 1 q 0 t t
   unfolding tailOf
   tail-word x l =
@@ -327,7 +326,7 @@ module _ (d : ℕ) (s : List ℕ) (at : ℕ) {b : ℕ} (y : b ≡ byteAt s at) w
     no-word = Lex.when-no s (suc (length s)) 0 at (is ".") dotWord (bracketed d) (Lex.byte-not y x)
 
     -- `[conditional]`.
-    pub tail-bracket : {q : Slot} {t t′ : List ℕ} {r : Ans}
+    pub tail-bracket : {q : Seat} {t t′ : List ℕ} {r : Ans}
         → b ≡ code "[" → Made r s (groupBy (code "]") d) at 1 q 0 t t′
         → Made r s (tailOf (within d)) at 1 q 0 t t′
     tail-bracket x₂ l =
@@ -340,7 +339,7 @@ module _ (d : ℕ) (s : List ℕ) (at : ℕ) {b : ℕ} (y : b ≡ byteAt s at) w
       no-bracket = no-word ∙ Lex.when-no s (suc (length s)) 0 at (is "[") (within d .bracket) _ (Lex.byte-not y x₂)
 
       -- A call.
-      pub tail-call : {q : Slot} {t t′ : List ℕ} {r : Ans} → b ≡ code "(" → Made r s (within d .call) at 1 q 0 t t′
+      pub tail-call : {q : Seat} {t t′ : List ℕ} {r : Ans} → b ≡ code "(" → Made r s (within d .call) at 1 q 0 t t′
           → Made r s (tailOf (within d)) at 1 q 0 t t′
       tail-call x₃ l =
           made-as l (tailOf (within d)) 1
@@ -348,7 +347,7 @@ module _ (d : ℕ) (s : List ℕ) (at : ℕ) {b : ℕ} (y : b ≡ byteAt s at) w
           (omega arith)
 
       -- None of these.
-      pub tail-none : {q : Slot} {t : List ℕ} {r : Ans} → (b ≡ code "(" → ⊥) → Leaf nothing r s need at 0
+      pub tail-none : {q : Seat} {t : List ℕ} {r : Ans} → (b ≡ code "(" → ⊥) → Leaf nothing r s need at 0
           → Made r s (tailOf (within d)) at 1 q 0 t t
       tail-none x₃ l = leaf-made-as (tailOf (within d)) 1 R.bare-need
           (Lex.leaf-refuses {k = 1} l refl (Lex.need-fails s at))
@@ -374,7 +373,7 @@ noDash d =
 
 module _ (d : ℕ) (s : List ℕ) (at : ℕ) {b : ℕ} (y : b ≡ byteAt s at) where
   -- `!`.
-  pub unary-bang : {q : Slot} {t t′ : List ℕ} {r : Ans} → b ≡ code "!" → Made r s (within d .prefix) at 1 q 0 t t′
+  pub unary-bang : {q : Seat} {t t′ : List ℕ} {r : Ans} → b ≡ code "!" → Made r s (within d .prefix) at 1 q 0 t t′
       → Made r s (unary (within d)) at 1 q 0 t t′
   unfolding unary
   unary-bang x l =
@@ -388,14 +387,14 @@ module _ (d : ℕ) (s : List ℕ) (at : ℕ) {b : ℕ} (y : b ≡ byteAt s at) w
     no-bang = Lex.when-no s (suc (length s)) 0 at (is "!") (within d .prefix) (noBang d) (Lex.byte-not y x)
 
     -- `--`.
-    pub unary-twice : {q : Slot} {t t′ : List ℕ} {f : Bool} → b ≡ code "-" → f ≡ opens s (code "-" ∷ code "-" ∷ []) at
+    pub unary-twice : {q : Seat} {t t′ : List ℕ} {f : Bool} → b ≡ code "-" → f ≡ opens s (code "-" ∷ code "-" ∷ []) at
         → f ≡ true
         → Made (No 3 at at 0 0) s (unary (within d)) at 1 q 0 t t′
     unfolding parse
     unary-twice x₂ e h = let z = sym e ∙ h in refused (no-bang ∙ rw z) refl
 
     -- `-`.
-    pub unary-dash : {q : Slot} {t : List ℕ} {f : Bool} {r : Ans} {t′ : List ℕ} → b ≡ code "-"
+    pub unary-dash : {q : Seat} {t : List ℕ} {f : Bool} {r : Ans} {t′ : List ℕ} → b ≡ code "-"
         → f ≡ opens s (code "-" ∷ code "-" ∷ []) at
         → f ≡ false
         → Made r s (within d .prefix) at 1 q 0 t t′
@@ -415,7 +414,7 @@ module _ (d : ℕ) (s : List ℕ) (at : ℕ) {b : ℕ} (y : b ≡ byteAt s at) w
           no-bang ∙ rw (z, w)
 
       -- An element or a fragment.
-      pub unary-element : {q : Slot} {t t′ : List ℕ} {r : Ans} → b ≡ code "<"
+      pub unary-element : {q : Seat} {t t′ : List ℕ} {r : Ans} → b ≡ code "<"
           → Made r s (within d .element ⨾ noSibling unexpected) at 1 q 0 t t′
           → Made r s (unary (within d)) at 1 q 0 t t′
       unary-element x₃ l =
@@ -424,7 +423,7 @@ module _ (d : ℕ) (s : List ℕ) (at : ℕ) {b : ℕ} (y : b ≡ byteAt s at) w
           (omega arith)
 
       -- A postfix.
-      pub unary-postfix : {q : Slot} {t t′ : List ℕ} {r : Ans} → (b ≡ code "<" → ⊥)
+      pub unary-postfix : {q : Seat} {t t′ : List ℕ} {r : Ans} → (b ≡ code "<" → ⊥)
           → Made r s (postfix (within d)) at 1 q 0 t t′
           → Made r s (unary (within d)) at 1 q 0 t t′
       unary-postfix x₃ l =
@@ -440,7 +439,7 @@ pub ruleset unary-steps = (unary-bang, unary-twice, unary-dash, unary-element, u
 abbrev chosen : ℕ → Rule
 chosen d = after blanks (is "?") (blanks ⨾ question (within d)) done
 
-module _ (d : ℕ) {s : List ℕ} {at : ℕ} {q : Slot} {r : Ans} {t t₁ : List ℕ}
+module _ (d : ℕ) {s : List ℕ} {at : ℕ} {q : Seat} {r : Ans} {t t₁ : List ℕ}
     (l : Made r s (either (within d)) at 1 q 0 t t₁) where
   -- The first part refuses.
   pub cond-refuses : {t′ : List ℕ} {x a b g y : ℕ} → r ≡ No x a b g y → Made r s (conditional (within d)) at 1 q 0 t t′
@@ -468,7 +467,7 @@ module _ (d : ℕ) {s : List ℕ} {at : ℕ} {q : Slot} {r : Ans} {t t₁ : List
           let far = l .of .far _ _ h in
           rw (f, g) (upto-made 1 (look-else cond-first l₂ goes-blanks h₂ y (ne-eqb b (code "?") x)) (omega arith))
 
-      module _ (x : b ≡ code "?") {a : ℕ} (st : Start (length t₁) (6 * k) a) {q₂ : Slot} (eq : q₂ ≡ slotBehind k q)
+      module _ (x : b ≡ code "?") {a : ℕ} (st : Start (length t₁) (rowWords * k) a) {q₂ : Seat} (eq : q₂ ≡ seatBehind k q)
           {r₃ : Ans} {u : List ℕ} (l₃ : Made r₃ s (question (within d)) p 1 q₂ 0 (midOf a (length t₁ - a) t₁) u) where
         cond-asked : Upto s (conditional (within d)) at q 0 t (question (within d)) p k t₁
         cond-asked =
@@ -498,13 +497,13 @@ pub ruleset cond-steps = (cond-refuses, cond-refuses-behind, cond-alone, cond-re
 module _ (d : ℕ) (s : List ℕ) (at : ℕ) {f : Bool}
     (e : f ≡ opens s (code "?" ∷ code "." ∷ []) at) where
   -- `?.`.
-  pub choice-dot : {q : Slot} {t t′ : List ℕ} → f ≡ true → Made (No 3 at at 0 0) s (question (within d)) at 1 q 0 t t′
+  pub choice-dot : {q : Seat} {t t′ : List ℕ} → f ≡ true → Made (No 3 at at 0 0) s (question (within d)) at 1 q 0 t t′
   unfolding question parse
   choice-dot h = let z = sym e ∙ h in refused (rw z) refl
 
   module _ (h : f ≡ false) {f₂ : Bool} (e₂ : f₂ ≡ opens s (code "?" ∷ code "?" ∷ []) at) where
     -- `??`.
-    pub choice-twice : {q : Slot} {t t′ : List ℕ} → f₂ ≡ true
+    pub choice-twice : {q : Seat} {t t′ : List ℕ} → f₂ ≡ true
         → Made (No 3 at at 0 0) s (question (within d)) at 1 q 0 t t′
     unfolding question parse
     choice-twice h₂ =
@@ -521,19 +520,19 @@ module _ (d : ℕ) (s : List ℕ) (at : ℕ) {f : Bool}
           rw (z, w)
 
       -- No level is left.
-      pub choice-deep : {q : Slot} {t t′ : List ℕ} → d ≡ 0
+      pub choice-deep : {q : Seat} {t t′ : List ℕ} → d ≡ 0
           → Made (No 14 at at 0 0) s (question (within d)) at 1 q 0 t t′
       choice-deep x = too-deep (choice-here ∙ L.choice-deep s at d x)
 
       module _ (deep : d ≡ 0 → ⊥) {r : Ans} (l : Leaf nothing r s pass at 1) where
         -- The blanks refuse.
-        pub choice-refuses : {q : Slot} {t t′ : List ℕ} {x a b g y : ℕ} → r ≡ No x a b g y
+        pub choice-refuses : {q : Seat} {t t′ : List ℕ} {x a b g y : ℕ} → r ≡ No x a b g y
             → Made r s (question (within d)) at 1 q 0 t t′
         choice-refuses x =
             refused (choice-here ∙ L.choice-is s at d deep ∙ seq-no s (suc (length s)) pass 0 at (Lex.leaf-no l x) _) x
 
         -- The arms decide.
-        pub choice-is : {q : Slot} {t : List ℕ} {r₂ : Ans} {p j : ℕ} {t′ : List ℕ} → r ≡ Got p j
+        pub choice-is : {q : Seat} {t : List ℕ} {r₂ : Ans} {p j : ℕ} {t′ : List ℕ} → r ≡ Got p j
             → Made r₂ s (armsOf (within (d - 1))) p 1 q 0 t t′
             → Made r₂ s (question (within d)) at 1 q 0 t t′
         choice-is {q} {t} x l₂ =
@@ -546,7 +545,7 @@ pub ruleset choice-steps = (choice-dot, choice-twice, choice-deep, choice-refuse
 
 -- ---- its arms
 
-module _ (d : ℕ) {s : List ℕ} {at : ℕ} {c : ℕ} {q : Slot} (room : Room c s at q) {r : Ans} {t t₁ : List ℕ}
+module _ (d : ℕ) {s : List ℕ} {at : ℕ} {c : ℕ} {q : Seat} (room : Room c s at q) {r : Ans} {t t₁ : List ℕ}
     (l : Made r s (conditional (within d)) at 1 q 0 t t₁) where
   arms-begun : Upto s (armsOf (within d)) at q 0 t (conditional (within d) ⨾ parted ⨾ conditional (within d)) at 0 t
   unfolding armsOf
@@ -565,8 +564,8 @@ module _ (d : ℕ) {s : List ℕ} {at : ℕ} {c : ℕ} {q : Slot} (room : Room c
         → Made r₂ s (armsOf (within d)) at 1 q 0 t t′
     arms-refuse-behind h₂ = refused (leaf-stops arms-first l₂ h₂) h₂
 
-    module _ {p j : ℕ} (h₂ : r₂ ≡ Got p j) {a : ℕ} (st : Start (length t₁) (6 * k) a) {q₂ : Slot}
-        (eq : q₂ ≡ slotBehind k q) {r₃ : Ans} {u : List ℕ}
+    module _ {p j : ℕ} (h₂ : r₂ ≡ Got p j) {a : ℕ} (st : Start (length t₁) (rowWords * k) a) {q₂ : Seat}
+        (eq : q₂ ≡ seatBehind k q) {r₃ : Ans} {u : List ℕ}
         (l₃ : Made r₃ s (conditional (within d)) p 1 q₂ 0 (midOf a (length t₁ - a) t₁) u) where
       arms-second : Upto s (armsOf (within d)) at q 0 t (conditional (within d)) p k t₁
       arms-second = leaf-goes arms-first l₂ K.goes-parted K.bare-parted h₂

@@ -23,8 +23,7 @@ use Rattle.lex.specs.declared.Ans.{Ans}
 use Rattle.lex.specs.declared.Ans.the-variants.{Got, No}
 use Rattle.lex.proofs.Laws as Lex
 use Rattle.lex.proofs.Bare.{Flat, count-flat}
-use Rattle.table.specs.declared.Slot.{Slot}
-use Rattle.table.specs.Slot.{slotInside, slotBehind, rowsFrom}
+use Rattle.table.specs.Slot.{Seat, seatInside, seatBehind, rowsFrom}
 use Rattle.table.specs.Contract.{nodeRow, Stored}
 use Rattle.table.specs.Reader.{counted, MadeOf, Made}
 use Rattle.table.proofs.Laws.{stored, headed, rows-none}
@@ -35,26 +34,26 @@ use Rattle.token.specs.Shut.{Shut}
 -- ---- rows
 
 -- Bytes in front of a forest have no rows.
-pub rows-behind : (v o : Forest) (q : Slot) (at : ℕ) {a : ℕ} → Flat v → a ≡ at + width v
+pub rows-behind : (v o : Forest) (q : Seat) (at : ℕ) {a : ℕ} → Flat v → a ≡ at + width v
     → rowsFrom q at (v ⋈ o) ≡ rowsFrom q a o
 rows-behind v o q at f e =
     let none = count-flat v f in
     let n : q .number + count v ≡ q .number = omega arith in
-    records-join v o at (q .number) (q .parent)
-    ∙ (λ i. rows-none v q at none i ++ records (sym e i) (n i) (q .parent) o)
+    records-join v o at (q .number) (q .parent) (q .depth)
+    ∙ (λ i. rows-none v q at none i ++ records (sym e i) (n i) (q .parent) (q .depth) o)
 
 -- Nor have bytes behind one.
-pub rows-front : (u v : Forest) (q : Slot) (at : ℕ) → count v ≡ 0 → rowsFrom q at (u ⋈ v) ≡ rowsFrom q at u
+pub rows-front : (u v : Forest) (q : Seat) (at : ℕ) → count v ≡ 0 → rowsFrom q at (u ⋈ v) ≡ rowsFrom q at u
 rows-front u v q at none =
-    records-join u v at (q .number) (q .parent)
-    ∙ ap (λ (x : List ℕ). rowsFrom q at u ++ x) (rows-none v (slotBehind (count u) q) (at + width u) none)
+    records-join u v at (q .number) (q .parent) (q .depth)
+    ∙ ap (λ (x : List ℕ). rowsFrom q at u ++ x) (rows-none v (seatBehind (count u) q) (at + width u) none)
     ∙ append-nil (rowsFrom q at u)
 
 -- A content and what is behind it have the rows of the two.
-pub content-rows : (d : ℕ) (h r : Forest) (q : Slot) (at : ℕ)
+pub content-rows : (d : ℕ) (h r : Forest) (q : Seat) (at : ℕ)
     → rowsFrom q at (h ⋈ r) ≡ rowsFrom q at (group (content d) h r)
 unfolding records
-content-rows d h r q at = records-join h r at (q .number) (q .parent)
+content-rows d h r q at = records-join h r at (q .number) (q .parent) (q .depth)
 
 join-three : (o h r : Forest) → o ⋈ (h ⋈ r) ≡ (o ⋈ h) ⋈ r
 unfolding _⋈_
@@ -63,26 +62,25 @@ join-three (byte b o) h r = ap (byte b) (join-three o h r)
 join-three (group l c o) h r = ap (group l c) (join-three o h r)
 
 -- So has it behind an opening tag.
-tag-rows : (d : ℕ) (o h r : Forest) (q : Slot) (at : ℕ)
+tag-rows : (d : ℕ) (o h r : Forest) (q : Seat) (at : ℕ)
     → rowsFrom q at ((o ⋈ h) ⋈ r) ≡ rowsFrom q at (o ⋈ group (content d) h r)
 tag-rows d o h r q at =
     let p = at + width o in
-    let k : Slot = slotBehind (count o) q in
+    let k : Seat = seatBehind (count o) q in
     ap (rowsFrom q at) (sym (join-three o h r))
-    ∙ records-join o (h ⋈ r) at (q .number) (q .parent)
+    ∙ records-join o (h ⋈ r) at (q .number) (q .parent) (q .depth)
     ∙ ap (λ (x : List ℕ). rowsFrom q at o ++ x) (content-rows d h r k p)
-    ∙ sym (records-join o (group (content d) h r) at (q .number) (q .parent))
+    ∙ sym (records-join o (group (content d) h r) at (q .number) (q .parent) (q .depth))
 
 -- ---- the whole
 
--- The opening tag's rule T at `at` has got a node around C, up to z, and its rows are stored at the word 6. The answer
--- of
--- the closing tag at c, with the verdict, is y c. The label of the whole is that of a node of kind K with extra x.
+-- The opening tag's rule T at `at` has got a node around C, up to z, and its rows are stored behind one row. The answer
+-- of the closing tag at c, with the verdict, is y c. The label of the whole is that of a node of kind K with extra x.
 pub record Opens (s : List ℕ) (d : ℕ) (n : Inner) (T : Rule) (label : Forest → Label) (K x at z m : ℕ) (y : ℕ → Answer)
-    (q : Slot) (t t₁ : List ℕ) : Type 0 where
+    (q : Seat) (t t₁ : List ℕ) : Type 0 where
   pub under : Forest
   pub tag : readAt s T at ≡ got true (group (node Kind.openingTag 0) under nil) z
-  pub wrote : t₁ ≡ sets t rowWords (rowsFrom (slotInside q) at (group (node Kind.openingTag 0) under nil))
+  pub wrote : t₁ ≡ sets t rowWords (rowsFrom (seatInside q) at (group (node Kind.openingTag 0) under nil))
   pub all : m ≡ count under
   pub few : 2 * at + (m + 2) ≤ 2 * z
   pub closed : (h : Forest) (c : ℕ) (b : Bool) → readAt s (children n) z ≡ got b h c
@@ -91,7 +89,7 @@ pub record Opens (s : List ℕ) (d : ℕ) (n : Inner) (T : Rule) (label : Forest
   pub says : (h r : Forest) → label (group (node Kind.openingTag 0) under nil ⋈ group (content d) h r) ≡ node K x
 
 module _ {s : List ℕ} {d : ℕ} {n : Inner} {T : Rule} {label : Forest → Label} {K x at z m : ℕ} {y : ℕ → Answer}
-    {q : Slot} {t t₁ : List ℕ} (v : Opens s d n T label K x at z m y q t t₁) where
+    {q : Seat} {t t₁ : List ℕ} (v : Opens s d n T label K x at z m y q t t₁) where
   -- The children refuse.
   pub paired-no : {e a b c f : ℕ} → readAt s (children n) z ≡ trouble e a b c f
       → readAt s (wrap label (paired T d (children n) closeTag verdict)) at ≡ trouble e a b c f
@@ -107,15 +105,15 @@ module _ {s : List ℕ} {d : ℕ} {n : Inner} {T : Rule} {label : Forest → Lab
       (v .closed h c b e ∙ ap (closedBy (group (node Kind.openingTag 0) (v .under) nil) d h) k) label
 
   -- All was read and stored.
-  pub paired-made : {r : Ans} {q₁ : Slot} {i₁ : ℕ} {t₂ : List ℕ}
+  pub paired-made : {r : Ans} {q₁ : Seat} {i₁ : ℕ} {t₂ : List ℕ}
       → Made r s (children n) z 0 q₁ i₁ t₁ t₂
       → goes (children n) ≡ true
-      → q₁ ≡ slotBehind (m + 1) (slotInside q)
-      → i₁ ≡ 6 * (m + 1 + 1)
+      → q₁ ≡ seatBehind (m + 1) (seatInside q)
+      → i₁ ≡ rowWords * (m + 1 + 1)
       → {c k : ℕ} → r ≡ Got c k
-      → {r₂ : Ans} {q₂ : Slot} {i₂ : ℕ} {t₃ : List ℕ} → MadeOf r₂ (y c) s c 3 q₂ i₂ t₂ t₃
-      → q₂ ≡ slotBehind (m + 1 + k) (slotInside q)
-      → i₂ ≡ 6 * (m + 1 + k + 1)
+      → {r₂ : Ans} {q₂ : Seat} {i₂ : ℕ} {t₃ : List ℕ} → MadeOf r₂ (y c) s c 3 q₂ i₂ t₂ t₃
+      → q₂ ≡ seatBehind (m + 1 + k) (seatInside q)
+      → i₂ ≡ rowWords * (m + 1 + k + 1)
       → {e l : ℕ} → r₂ ≡ Got e l
       → {t₄ : List ℕ} → Stored 0 q K at e x (m + 1 + k + l) t₃ t₄
       → Made (Got e (m + 1 + k + l + 1)) s (wrap label (paired T d (children n) closeTag verdict)) at 1 q 0 t t₄
@@ -125,7 +123,7 @@ module _ {s : List ℕ} {d : ℕ} {n : Inner} {T : Rule} {label : Forest → Lab
       let H : Forest = outOf (readAt s (children n) z) in
       let R : Forest = outOf (y c) in
       let P : Forest = O ⋈ group (content d) H R in
-      let Q : Slot = slotInside q in
+      let Q : Seat = seatInside q in
       let F = suc (length s) in
       let far = l .of .far _ _ h in
       let far₂ = l₂ .far _ _ h₂ in
@@ -143,18 +141,18 @@ module _ {s : List ℕ} {d : ℕ} {n : Inner} {T : Rule} {label : Forest → Lab
       let cOH = count-behind O H in
       let cP = count-behind O (group (content d) H R) in
       let lR : j ≡ count R = last .2 in
-      let s₂ : t₂ ≡ sets t 6 (rowsFrom Q at (O ⋈ H)) =
+      let s₂ : t₂ ≡ sets t rowWords (rowsFrom Q at (O ⋈ H)) =
       l .of .wrote _ _ h ∙ (λ i. sets (v .wrote i) (ei i) (rowsFrom (eq i) z H))
-      ∙ stored O H t Q at 6 z (Q .number + (m + 1)) (6 * (m + 1 + 1)) w₁ (omega arith) (omega arith) in
-      let s₃ : t₃ ≡ sets t 6 (rowsFrom Q at ((O ⋈ H) ⋈ R)) =
+      ∙ stored O H t Q at rowWords z (Q .number + (m + 1)) (rowWords * (m + 1 + 1)) w₁ (omega arith) (omega arith) in
+      let s₃ : t₃ ≡ sets t rowWords (rowsFrom Q at ((O ⋈ H) ⋈ R)) =
       l₂ .wrote _ _ h₂ ∙ (λ i. sets (s₂ i) (ei₂ i) (rowsFrom (eq₂ i) c R))
-      ∙ stored (O ⋈ H) R t Q at 6 c (Q .number + (m + 1 + k)) (6 * (m + 1 + k + 1))
+      ∙ stored (O ⋈ H) R t Q at rowWords c (Q .number + (m + 1 + k)) (rowWords * (m + 1 + k + 1))
       (omega (arith, width-behind O H)) (omega arith) (omega arith) in
       let s₄ : t₄ ≡ sets t 0 (rowsFrom q at (group (node K x) P nil)) =
       st .is
       ∙ ap (λ (u : List ℕ). sets u 0 (nodeRow q K at e x (m + 1 + k + j)))
-      (s₃ ∙ ap (λ (u : List ℕ). sets t 6 u) (tag-rows d O H R Q at))
-      ∙ headed P t q at 0 6 K e x (m + 1 + k + j) w₃ (omega arith) refl in
+      (s₃ ∙ ap (λ (u : List ℕ). sets t rowWords u) (tag-rows d O H R Q at))
+      ∙ headed P t q at 0 rowWords K e x (m + 1 + k + j) w₃ (omega arith) refl in
       record {
         of = made-done s (group (node K x) P nil) at 1 q 0 t t₄ e (m + 1 + k + j + 1)
             (whole ∙ ap (λ (u : Label). got true (group u P nil) e) (v .says H R))
@@ -162,11 +160,11 @@ module _ {s : List ℕ} {d : ℕ} {n : Inner} {T : Rule} {label : Forest → Lab
       }
 
   -- The closing tag and the record of the whole, as their reader promises them.
-  pub paired-shut : {r : Ans} {q₁ : Slot} {i₁ : ℕ} {t₂ : List ℕ}
+  pub paired-shut : {r : Ans} {q₁ : Seat} {i₁ : ℕ} {t₂ : List ℕ}
       → Made r s (children n) z 0 q₁ i₁ t₁ t₂
       → goes (children n) ≡ true
-      → q₁ ≡ slotBehind (m + 1) (slotInside q)
-      → i₁ ≡ 6 * (m + 1 + 1)
+      → q₁ ≡ seatBehind (m + 1) (seatInside q)
+      → i₁ ≡ rowWords * (m + 1 + 1)
       → {c k : ℕ} → r ≡ Got c k
       → {r₂ : Ans} {u : ℕ} {t₃ : List ℕ} → Shut r₂ (y c) s K x at c u q t₂ t₃
       → u ≡ m + 1 + k
@@ -183,7 +181,7 @@ module _ {s : List ℕ} {d : ℕ} {n : Inner} {T : Rule} {label : Forest → Lab
       by (Got e j) i =
           let ends = w .ends e j i in
           let st = subst (λ (p : ℕ). Stored 0 q K at e x (p + j) (w .between) t₃) eu (ends .1) in
-          let whole = paired-made l go eq ei h (w .made) (ap (λ (p : ℕ). slotBehind p (slotInside q)) eu)
-          (ap (λ (p : ℕ). 6 * (p + 1)) eu) i st in
+          let whole = paired-made l go eq ei h (w .made) (ap (λ (p : ℕ). seatBehind p (seatInside q)) eu)
+          (ap (λ (p : ℕ). rowWords * (p + 1)) eu) i st in
           let same : r₂ ≡ Got e (m + 1 + k + j + 1) = ends .0 ∙ ap (λ (p : ℕ). Got e (p + j + 1)) eu in
           rw same whole

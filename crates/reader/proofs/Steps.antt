@@ -21,22 +21,21 @@ use Rattle.lex.specs.Contract.{view, outOf, nothing, Leaf}
 use Rattle.lex.specs.declared.Ans.{Ans}
 use Rattle.lex.specs.declared.Ans.the-variants.{Got, No}
 use Rattle.lex.proofs.Bare.{bare, flat-got, count-flat}
-use Rattle.table.specs.declared.Slot.{Slot}
-use Rattle.table.specs.Slot.{slotInside, slotBehind}
+use Rattle.table.specs.Slot.{Seat, seatInside, seatBehind}
 use Rattle.table.specs.Contract.{Start, Words, Stored}
 use Rattle.table.specs.Reader.{Room, Made}
 use Rattle.table.proofs.Laws.{rows-none}
 use Rattle.table.proofs.Made.{made-as, made-no, made-lent, made-done, refused}
 use Rattle.table.proofs.Upto.{Upto, upto-begin, upto-as, upto-count, upto-bare, upto-no, leaf-stops, read-goes}
 use Rattle.table.proofs.Upto.{made-goes, last-made, last-made-stops, loop-on, loop-out, loop-stops, upto-made}
-use Rattle.table.proofs.Upto.{node-made, node-no, same-slot, turn-read}
+use Rattle.table.proofs.Upto.{node-made, node-no, same-seat, turn-read}
 use Rattle.table.proofs.Asked.{reader-asked}
 use Rattle.tag.specs.Token.{goesOn}
 use Rattle.token.proofs.Told.{told-goes, told-stop}
 
 -- ---- a leaf that says whether it goes on
 
-module _ {s : List ℕ} {G L R : Rule} {at : ℕ} {q : Slot} {i : ℕ} {t₀ : List ℕ} {p m : ℕ} {t : List ℕ}
+module _ {s : List ℕ} {G L R : Rule} {at : ℕ} {q : Seat} {i : ℕ} {t₀ : List ℕ} {p m : ℕ} {t : List ℕ}
     (v : Upto s G at q i t₀ (seq L R) p m t) (ba : bare L ≡ true) {r : Ans} {k : ℕ} (l : Leaf goesOn r s L p k)
     {e j : ℕ} (h : r ≡ Got e j) where
   -- It goes on: what is behind it is left.
@@ -58,7 +57,7 @@ module _ {s : List ℕ} {G L R : Rule} {at : ℕ} {q : Slot} {i : ℕ} {t₀ : L
 -- ---- a leaf in the place of a reader
 
 -- A leaf that reads bytes alone makes no record and writes nothing.
-pub leaf-makes : {r : Ans} {s : List ℕ} {g : Rule} {at k : ℕ} (q : Slot) (i : ℕ) (t : List ℕ)
+pub leaf-makes : {r : Ans} {s : List ℕ} {g : Rule} {at k : ℕ} (q : Seat) (i : ℕ) (t : List ℕ)
     → bare g ≡ true
     → Leaf nothing r s g at k
     → Made r s g at k q i t t
@@ -76,7 +75,7 @@ leaf-makes {r} {s} {g} {at} {k} q i t ba l = by (readAt s g at) refl r refl
         })
 
 -- It is the first of two, in the place of a reader that would have written there.
-pub leaf-made-as : {r : Ans} {s : List ℕ} {g : Rule} (G : Rule) {at k : ℕ} {q : Slot} {i : ℕ} {t : List ℕ} (j : ℕ)
+pub leaf-made-as : {r : Ans} {s : List ℕ} {g : Rule} (G : Rule) {at k : ℕ} {q : Seat} {i : ℕ} {t : List ℕ} (j : ℕ)
     → bare g ≡ true
     → Leaf nothing r s g at k
     → readAt s g at ≡ readAt s G at
@@ -86,14 +85,20 @@ leaf-made-as G {q = q} {i} {t} j ba l e f = made-as (leaf-makes q i t ba l) G j 
 
 -- ---- what the calls of a reader ask, behind one that has made something
 
-module _ {c : ℕ} {s : List ℕ} {at : ℕ} {q : Slot} (room : Room c s at q) {r : Ans} {g : Rule} {k : ℕ} {q₁ : Slot}
+module _ {c : ℕ} {s : List ℕ} {at : ℕ} {q : Seat} (room : Room c s at q) {r : Ans} {g : Rule} {k : ℕ} {q₁ : Seat}
     {i : ℕ} {t t′ : List ℕ} (l : Made r s g at k q₁ i t t′) {e m : ℕ} (h : r ≡ Got e m) where
   -- Room behind it.
-  pub made-room : {d : ℕ} {u : List ℕ} {y : ℕ} {q₂ : Slot} → c ≤ d → u ≡ s → y ≡ e → q₂ ≡ slotBehind m q → Room d u y q₂
+  pub made-room : {d : ℕ} {u : List ℕ} {y : ℕ} {q₂ : Seat} → c ≤ d → u ≡ s → y ≡ e → q₂ ≡ seatBehind m q → Room d u y q₂
   made-room i f z w =
       let far = l .of .far _ _ h in
       let few = room .few in
-      rw (f, z, w) (record { short = room .short; inside = far .1; few = omega arith; held = room .held })
+      rw (f, z, w) (record {
+        short = room .short;
+        inside = far .1;
+        few = omega arith;
+        held = room .held;
+        shallow = omega (arith, room .shallow);
+      })
 
   -- The slot behind it is a number.
   pub made-slot : c ≤ 100 → {x y : ℕ} → x ≡ q .number → y ≡ m → x + y < 2 ^ 32
@@ -104,7 +109,7 @@ module _ {c : ℕ} {s : List ℕ} {at : ℕ} {q : Slot} (room : Room c s at q) {
       omega arith
 
   -- So is its place in the table.
-  pub made-row : {y : ℕ} → y ≡ m → Fits w64 (6 * y)
+  pub made-row : {y : ℕ} → y ≡ m → Fits w64 (rowWords * y)
   made-row z =
       let far = l .of .far _ _ h in
       let short = room .short in
@@ -114,23 +119,29 @@ module _ {c : ℕ} {s : List ℕ} {at : ℕ} {q : Slot} (room : Room c s at q) {
   module _ {r₂ : Ans} {w : Bool → Forest → ℕ} {g₂ : Rule} {k₂ : ℕ} (l₂ : Leaf w r₂ s g₂ e k₂) {p j : ℕ}
       (h₂ : r₂ ≡ Got p j) where
     -- Room behind both.
-    pub made-leaf-room : {d : ℕ} {u : List ℕ} {y : ℕ} {q₂ : Slot} → c ≤ d → u ≡ s → y ≡ p → q₂ ≡ slotBehind m q
+    pub made-leaf-room : {d : ℕ} {u : List ℕ} {y : ℕ} {q₂ : Seat} → c ≤ d → u ≡ s → y ≡ p → q₂ ≡ seatBehind m q
         → Room d u y q₂
     made-leaf-room i f z w =
         let far = l .of .far _ _ h in
         let far₂ = l₂ .far _ _ h₂ in
         let few = room .few in
-        rw (f, z, w) (record { short = room .short; inside = far₂ .1; few = omega arith; held = room .held })
+        rw (f, z, w) (record {
+          short = room .short;
+          inside = far₂ .1;
+          few = omega arith;
+          held = room .held;
+          shallow = omega (arith, room .shallow);
+        })
 
 -- What a reader has got began within the input.
-pub made-began : {r : Ans} {s : List ℕ} {g : Rule} {at k : ℕ} {q : Slot} {i : ℕ} {t t′ : List ℕ} {e m : ℕ}
+pub made-began : {r : Ans} {s : List ℕ} {g : Rule} {at k : ℕ} {q : Seat} {i : ℕ} {t t′ : List ℕ} {e m : ℕ}
     → Made r s g at k q i t t′
     → r ≡ Got e m
     → at ≤ length s
 made-began l h = let far = l .of .far _ _ h in omega arith
 
 -- As many records as two readers have made are a number.
-pub both-fit : {c : ℕ} {s : List ℕ} {at : ℕ} {q : Slot} {r r₂ : Ans} {g g₂ : Rule} {p₁ p₂ k k₂ : ℕ} {q₁ q₂ : Slot}
+pub both-fit : {c : ℕ} {s : List ℕ} {at : ℕ} {q : Seat} {r r₂ : Ans} {g g₂ : Rule} {p₁ p₂ k k₂ : ℕ} {q₁ q₂ : Seat}
     {i i₂ e m z n : ℕ} {t t′ t₂ t₃ : List ℕ} {x y : ℕ}
     → Room c s at q
     → Made r s g p₁ k q₁ i t t′
@@ -166,7 +177,7 @@ pub begins : {s : List ℕ} {G X Y : Rule} {at : ℕ} → Splits s G at X Y → 
 begins {Y = Y} is = record { rest = Y; same = is .same }
 
 -- The first refuses.
-pub two-refuses : {s : List ℕ} {G X : Rule} {at k j : ℕ} {q : Slot} {r : Ans} {t t₁ t′ : List ℕ} {x a b g y : ℕ}
+pub two-refuses : {s : List ℕ} {G X : Rule} {at k j : ℕ} {q : Seat} {r : Ans} {t t₁ t′ : List ℕ} {x a b g y : ℕ}
     → Made r s X at k q 0 t t₁
     → r ≡ No x a b g y
     → Begins s G at X
@@ -174,7 +185,7 @@ pub two-refuses : {s : List ℕ} {G X : Rule} {at k j : ℕ} {q : Slot} {r : Ans
 two-refuses {s} {G} {X} {at} l h is =
     refused (is .same ∙ seq-no s (suc (length s)) X 0 at (made-no l h) (is .rest)) h
 
-module _ {s : List ℕ} {G X Y : Rule} {at : ℕ} (is : Splits s G at X Y) {c : ℕ} {q : Slot} (room : Room c s at q)
+module _ {s : List ℕ} {G X Y : Rule} {at : ℕ} (is : Splits s G at X Y) {c : ℕ} {q : Seat} (room : Room c s at q)
     {r : Ans} {k₁ : ℕ} {t t₁ : List ℕ} (l : Made r s X at k₁ q 0 t t₁) where
   two-begun : Upto s G at q 0 t (X ⨾ Y) at 0 t
   two-begun = upto-as (upto-begin G q 0 t (room .inside)) (is .same)
@@ -183,10 +194,10 @@ module _ {s : List ℕ} {G X Y : Rule} {at : ℕ} (is : Splits s G at X Y) {c : 
   pub two-first : {e k : ℕ} → r ≡ Got e k → Upto s G at q 0 t Y e k t₁
   two-first {e} {k} h =
       let z : 0 + rowWords * 0 ≡ 0 = omega arith in
-      upto-count (made-goes two-begun l (is .first) (same-slot q) (sym z) h) {k = k} (omega arith)
+      upto-count (made-goes two-begun l (is .first) (same-seat q) (sym z) h) {k = k} (omega arith)
 
-  module _ {e k : ℕ} (h : r ≡ Got e k) {a : ℕ} (st : Start (length t₁) (6 * k) a) {q₂ : Slot}
-      (eq : q₂ ≡ slotBehind k q) {r₂ : Ans} {k₂ : ℕ} {u : List ℕ}
+  module _ {e k : ℕ} (h : r ≡ Got e k) {a : ℕ} (st : Start (length t₁) (rowWords * k) a) {q₂ : Seat}
+      (eq : q₂ ≡ seatBehind k q) {r₂ : Ans} {k₂ : ℕ} {u : List ℕ}
       (l₂ : Made r₂ s Y e k₂ q₂ 0 (midOf a (length t₁ - a) t₁) u) where
     -- The second refuses.
     pub two-refuses-inside : {t′ : List ℕ} {x a b g y j : ℕ} → r₂ ≡ No x a b g y → Made r₂ s G at j q 0 t t′
@@ -219,17 +230,17 @@ pub record Loops (s : List ℕ) (G L R : Rule) : Type 0 where
   pub on : goes R ≡ true
 
 -- Where a loop stands: the room that it began with, and how far its rule is.
-pub record Loop (c : ℕ) (s : List ℕ) (G : Rule) (at : ℕ) (q : Slot) (t₀ : List ℕ) (p m : ℕ) (t : List ℕ) : Type 0 where
+pub record Loop (c : ℕ) (s : List ℕ) (G : Rule) (at : ℕ) (q : Seat) (t₀ : List ℕ) (p m : ℕ) (t : List ℕ) : Type 0 where
   pub room : Room c s at q
   pub here : Upto s G at q 0 t₀ G p m t
 
 -- It begins.
-pub loop-begins : {c : ℕ} {s : List ℕ} {G : Rule} {at : ℕ} {q : Slot} {t : List ℕ} → Room c s at q
+pub loop-begins : {c : ℕ} {s : List ℕ} {G : Rule} {at : ℕ} {q : Seat} {t : List ℕ} → Room c s at q
     → Loop c s G at q t at 0 t
 loop-begins {G = G} {q = q} {t} room = record { room = room; here = upto-begin G q 0 t (room .inside) }
 
 -- Room for what stands behind a leaf in a turn.
-module _ {c : ℕ} {s : List ℕ} {G : Rule} {at : ℕ} {q : Slot} {t₀ : List ℕ} {p m : ℕ} {t : List ℕ}
+module _ {c : ℕ} {s : List ℕ} {G : Rule} {at : ℕ} {q : Seat} {t₀ : List ℕ} {p m : ℕ} {t : List ℕ}
     (v : Loop c s G at q t₀ p m t) where
   -- Here is within the input.
   pub loop-inside : (w : List ℕ) {y : ℕ} → y ≡ p → w ≡ s → y ≤ length w
@@ -247,7 +258,7 @@ module _ {c : ℕ} {s : List ℕ} {G : Rule} {at : ℕ} {q : Slot} {t₀ : List 
       omega arith
 
   -- So is its place in the table.
-  pub loop-row : {y : ℕ} → y ≡ m → Fits w64 (6 * y)
+  pub loop-row : {y : ℕ} → y ≡ m → Fits w64 (rowWords * y)
   loop-row e =
       let a = v .here .few in
       let b = v .here .inside in
@@ -255,41 +266,53 @@ module _ {c : ℕ} {s : List ℕ} {G : Rule} {at : ℕ} {q : Slot} {t₀ : List 
       omega arith
 
   -- Room here.
-  pub loop-room-here : {u : List ℕ} {y : ℕ} {q₁ : Slot} → u ≡ s → y ≡ p → q₁ ≡ slotBehind m q → Room c u y q₁
+  pub loop-room-here : {u : List ℕ} {y : ℕ} {q₁ : Seat} → u ≡ s → y ≡ p → q₁ ≡ seatBehind m q → Room c u y q₁
   loop-room-here f z w =
       let few = v .room .few in
       let a = v .here .few in
       rw (f, z, w)
-      (record { short = v .room .short; inside = v .here .inside; few = omega arith; held = v .room .held })
+      (record {
+        short = v .room .short;
+        inside = v .here .inside;
+        few = omega arith;
+        held = v .room .held;
+        shallow = omega (arith, v .room .shallow);
+      })
 
   -- Room behind a leaf.
   pub loop-room : {w : Bool → Forest → ℕ} {r : Ans} {L : Rule} {k e j : ℕ} → Leaf w r s L p k → r ≡ Got e j
-      → {u : List ℕ} {y : ℕ} {q₁ : Slot} → u ≡ s
+      → {u : List ℕ} {y : ℕ} {q₁ : Seat} → u ≡ s
       → y ≡ e
-      → q₁ ≡ slotBehind m q
+      → q₁ ≡ seatBehind m q
       → Room c u y q₁
   loop-room l h f z w =
       let far = l .far _ _ h in
       let few = v .room .few in
       let a = v .here .few in
       rw (f, z, w)
-      (record { short = v .room .short; inside = far .1; few = omega arith; held = v .room .held })
+      (record {
+        short = v .room .short;
+        inside = far .1;
+        few = omega arith;
+        held = v .room .held;
+        shallow = omega (arith, v .room .shallow);
+      })
 
 -- The rule G is a loop, and each turn of it reads L first.
 pub record Turns (s : List ℕ) (G L : Rule) : Type 0 where
   pub rest : Rule
   pub loops : Loops s G L rest
 
-module _ {s : List ℕ} {G L R : Rule} (is : Loops s G L R) {c at : ℕ} {q : Slot} {t₀ : List ℕ} {p m : ℕ} {t : List ℕ}
+module _ {s : List ℕ} {G L R : Rule} (is : Loops s G L R) {c at : ℕ} {q : Seat} {t₀ : List ℕ} {p m : ℕ} {t : List ℕ}
     (v : Loop c s G at q t₀ p m t) where
   loop-left : Upto s G at q 0 t₀ (many (is .turn)) p m t
   loop-left = subst (λ (g : Rule). Upto s G at q 0 t₀ g p m t) (is .is) (v .here)
 
-  loop-turn : Upto s (is .turn) p (slotBehind m q) (6 * m) t (L ⨾ R) p 0 t
+  loop-turn : Upto s (is .turn) p (seatBehind m q) (rowWords * m) t (L ⨾ R) p 0 t
   loop-turn =
-      upto-as (upto-begin (is .turn) (slotBehind m q) (6 * m) t (v .here .inside)) (is .same p (v .here .inside))
+      upto-as (upto-begin (is .turn) (seatBehind m q) (rowWords * m) t (v .here .inside)) (is .same p (v .here .inside))
 
-module _ {s : List ℕ} {G L : Rule} {c at : ℕ} {q : Slot} {t₀ : List ℕ} {p m : ℕ} {t : List ℕ}
+module _ {s : List ℕ} {G L : Rule} {c at : ℕ} {q : Seat} {t₀ : List ℕ} {p m : ℕ} {t : List ℕ}
     (v : Loop c s G at q t₀ p m t) {r : Ans} {k : ℕ} (l : Leaf goesOn r s L p k) where
   -- The leaf refuses.
   pub loop-refuses : {t′ : List ℕ} {x a b g y : ℕ} → r ≡ No x a b g y → Turns s G L → Made r s G at 0 q 0 t₀ t′
@@ -304,10 +327,10 @@ module _ {s : List ℕ} {G L : Rule} {c at : ℕ} {q : Slot} {t₀ : List ℕ} {
       (on-last (loop-turn (is .loops) v) (is .loops .bytes) l h n) in
       rw (f, g) (upto-made 0 (upto-count o {k = m} (omega arith)) (omega arith))
 
-module _ {s : List ℕ} {G L R : Rule} (is : Loops s G L R) {c at : ℕ} {q : Slot} {t₀ : List ℕ} {p m : ℕ} {t : List ℕ}
+module _ {s : List ℕ} {G L R : Rule} (is : Loops s G L R) {c at : ℕ} {q : Seat} {t₀ : List ℕ} {p m : ℕ} {t : List ℕ}
     (v : Loop c s G at q t₀ p m t) {r : Ans} {k₁ : ℕ} (l : Leaf goesOn r s L p k₁) where
   module _ {e j : ℕ} (h : r ≡ Got e j) where
-    module _ (n : j ≡ 0 → ⊥) {a : ℕ} (st : Start (length t) (6 * m) a) {q₂ : Slot} (eq : q₂ ≡ slotBehind m q) {r₂ : Ans}
+    module _ (n : j ≡ 0 → ⊥) {a : ℕ} (st : Start (length t) (rowWords * m) a) {q₂ : Seat} (eq : q₂ ≡ seatBehind m q) {r₂ : Ans}
         {u : List ℕ} (l₂ : Made r₂ s R e 1 q₂ 0 (midOf a (length t - a) t) u) where
       -- What stands behind the leaf refuses.
       pub loop-refuses-inside : {t′ : List ℕ} {x a b g y : ℕ} → r₂ ≡ No x a b g y → Made r₂ s G at 0 q 0 t₀ t′
@@ -343,7 +366,7 @@ module _ {s : List ℕ} {G L R : Rule} (is : Loops s G L R) {c at : ℕ} {q : Sl
             let far = l .far _ _ h in
             let far₂ = l₂ .of .far _ _ h₂ in
             let on = last-made (on-more (loop-turn is v) (is .bytes) l h n) (made-lent t st l₂ w) (is .on)
-            (eq ∙ same-slot (slotBehind m q)) (omega arith) h₂ in
+            (eq ∙ same-seat (seatBehind m q)) (omega arith) h₂ in
             let past = upto-count on {k = k} (omega arith) in
             let next = loop-on refl (omega arith) (loop-left is v) past (omega arith) in
             rw (f, g)
@@ -374,7 +397,7 @@ pub ruleset loop-asked = (
 pub record Wraps (s : List ℕ) (N : Rule) (at K : ℕ) (G : Rule) (p : ℕ) : Type 0 where
   pub within : Rule
   pub node : readAt s N at ≡ readAt s (nodeOf K within) at
-  pub here : (q : Slot) (i : ℕ) (t : List ℕ) → Upto s within at q i t G p 0 t
+  pub here : (q : Seat) (i : ℕ) (t : List ℕ) → Upto s within at q i t G p 0 t
   pub on : goes G ≡ true
   pub few : (o : Forest) (z : ℕ) → readAt s N at ≡ got true o z → at + count o ≤ z + 1
 
@@ -383,17 +406,17 @@ pub record Holds (s : List ℕ) (N : Rule) (at : ℕ) (G : Rule) (p : ℕ) : Typ
   pub kind : ℕ
   pub wraps : Wraps s N at kind G p
 
-lent-inside : (q : Slot) (t : List ℕ) {r : Ans} {s : List ℕ} {G : Rule} {p k : ℕ} {q₁ : Slot} {a : ℕ} {u t₁ : List ℕ}
-    → Start (length t) 6 a
-    → q₁ ≡ slotInside q
+lent-inside : (q : Seat) (t : List ℕ) {r : Ans} {s : List ℕ} {G : Rule} {p k : ℕ} {q₁ : Seat} {a : ℕ} {u t₁ : List ℕ}
+    → Start (length t) rowWords a
+    → q₁ ≡ seatInside q
     → Made r s G p k q₁ 0 (midOf a (length t - a) t) u
     → t₁ ≡ putMid a (length t - a) t u
-    → Made r s G p k (slotInside q) 6 t t₁
+    → Made r s G p k (seatInside q) rowWords t t₁
 lent-inside q t {r} {s} {G} {p} {k} {t₁ = t₁} st eq l w =
-    subst (λ (x : Slot). Made r s G p k x 6 t t₁) eq (made-lent t st l w)
+    subst (λ (x : Seat). Made r s G p k x rowWords t t₁) eq (made-lent t st l w)
 
 -- What is inside refuses.
-pub node-refuses : {s : List ℕ} {N G : Rule} {at p k j : ℕ} {q q₁ : Slot} {r : Ans} {t t′ u u₁ : List ℕ} {x a b g y : ℕ}
+pub node-refuses : {s : List ℕ} {N G : Rule} {at p k j : ℕ} {q q₁ : Seat} {r : Ans} {t t′ u u₁ : List ℕ} {x a b g y : ℕ}
     → Made r s G p k q₁ 0 u u₁
     → r ≡ No x a b g y
     → Holds s N at G p
@@ -402,8 +425,8 @@ node-refuses {s} {at = at} {q = q} {t = t} l h is =
     refused (is .wraps .node ∙ node-no s (is .wraps .within) at (is .kind)
     (upto-no (is .wraps .here q 0 t) (made-no l h))) h
 
-module _ {s : List ℕ} {N G : Rule} {at K p : ℕ} (t : List ℕ) {a : ℕ} (st : Start (length t) 6 a) {q q₁ : Slot}
-    (eq : q₁ ≡ slotInside q) {r : Ans} {k : ℕ} {u : List ℕ}
+module _ {s : List ℕ} {N G : Rule} {at K p : ℕ} (t : List ℕ) {a : ℕ} (st : Start (length t) rowWords a) {q q₁ : Seat}
+    (eq : q₁ ≡ seatInside q) {r : Ans} {k : ℕ} {u : List ℕ}
     (l : Made r s G p k q₁ 0 (midOf a (length t - a) t) u) where
   -- It is read, and the node's row was stored.
   pub node-is : {z m y x j : ℕ} {t₁ t₂ : List ℕ}
@@ -419,7 +442,7 @@ module _ {s : List ℕ} {N G : Rule} {at K p : ℕ} (t : List ℕ) {a : ℕ} (st
   unfolding count
   node-is {z} {m} {j = j} {t₁} {t₂} h w st₂ is o b f g =
       let far = l .of .far _ _ h in
-      let up = last-made (is .here (slotInside q) 6 t) (lent-inside q t st eq l w) (is .on) (same-slot (slotInside q))
+      let up = last-made (is .here (seatInside q) rowWords t) (lent-inside q t st eq l w) (is .on) (same-seat (seatInside q))
       refl h in
       let up₁ = upto-count up {k = m} (omega arith) in
       let whole = wrap-got s (suc (length s)) (is .within) 0 at (turn-read up₁) (λ o. node K 0) in
@@ -428,14 +451,14 @@ module _ {s : List ℕ} {N G : Rule} {at K p : ℕ} (t : List ℕ) {a : ℕ} (st
       rw (f, g) (made-as (node-made K j up₁ (omega arith) st₂ (omega arith)) N j (sym (is .node)) (omega arith))
 
 -- A node's words are numbers.
-pub node-words : {c : ℕ} {s : List ℕ} {at : ℕ} {q : Slot} {r : Ans} {G : Rule} {p k : ℕ} {q₁ : Slot} {t u : List ℕ}
+pub node-words : {c : ℕ} {s : List ℕ} {at : ℕ} {q : Seat} {r : Ans} {G : Rule} {p k : ℕ} {q₁ : Seat} {t u : List ℕ}
     {z m K : ℕ}
     → Room c s at q
     → c ≤ 100
     → Made r s G p k q₁ 0 t u
     → r ≡ Got z m
     → K < 2 ^ 32
-    → {q₂ : Slot} {x y w : ℕ} → q₂ ≡ q
+    → {q₂ : Seat} {x y w : ℕ} → q₂ ≡ q
     → x ≡ at
     → y ≡ z
     → w ≡ m
@@ -446,10 +469,11 @@ node-words room i l h b f g e w =
     let short = room .short in
     let inside = room .inside in
     let held = room .held in
+    let deep = room .shallow in
     rw (f, g, e, w) (omega arith)
 
 -- So is the count of records with the node.
-pub node-fits : {c : ℕ} {s : List ℕ} {at : ℕ} {q : Slot} {r : Ans} {G : Rule} {p k : ℕ} {q₁ : Slot} {t u : List ℕ}
+pub node-fits : {c : ℕ} {s : List ℕ} {at : ℕ} {q : Seat} {r : Ans} {G : Rule} {p k : ℕ} {q₁ : Seat} {t u : List ℕ}
     {z m y : ℕ}
     → Room c s at q
     → Made r s G p k q₁ 0 t u

@@ -13,7 +13,7 @@ use borrow.Rule.Slice.PartMut.{putMid, midOf}
 use Rattle.rules.specs.Forest.{node, content, Forest, nil, byte, group, _⋈_, width, inside}
 use Rattle.rules.specs.Rule.{Rule, step, _⨾_}
 use Rattle.rules.specs.Parse.{Answer, got, trouble, pick, behind, byteAt, parse, readAt}
-use Rattle.rules.specs.Record.{count}
+use Rattle.rules.specs.Record.{rowWords, count}
 use Rattle.rules.proofs.Forests.{count-behind}
 use Rattle.rules.proofs.Run.{goes, wide-got}
 use Rattle.rules.proofs.Got.{behind-out}
@@ -33,8 +33,7 @@ use Rattle.lex.specs.declared.Ans.{Ans}
 use Rattle.lex.specs.declared.Ans.the-variants as A
 use Rattle.lex.proofs.Laws as Lex
 use Rattle.lex.proofs.Bare.{bare, Flat, flat-got, count-flat}
-use Rattle.table.specs.declared.Slot.{Slot}
-use Rattle.table.specs.Slot.{slotInside, slotBehind, rowsFrom}
+use Rattle.table.specs.Slot.{Seat, seatInside, seatBehind, rowsFrom}
 use Rattle.table.specs.Contract.{Start, nodeRow, Stored}
 use Rattle.table.specs.Reader.{counted, Room, Made}
 use Rattle.table.proofs.Laws.{headed, leaf-row}
@@ -71,7 +70,7 @@ plain-no {r = r} {y} {n} {a} {b} {c} {d} e f {z} {m} h =
     absurd (omega arith)
 
 -- It refuses.
-tag-no : {r : Tagged} {y : Ans} {s : List ℕ} {n : Inner} {at : ℕ} {q : Slot} {t t′ : List ℕ} {x a b c d : ℕ}
+tag-no : {r : Tagged} {y : Ans} {s : List ℕ} {n : Inner} {at : ℕ} {q : Seat} {t t′ : List ℕ} {x a b c d : ℕ}
     → readAt s (inTag n) at ≡ trouble x a b c d
     → y ≡ A.No x a b c d
     → plain r ≡ y
@@ -83,10 +82,10 @@ tag-no e h f = record {
   goes = λ z m e k g i j. plain-no f h i;
 }
 
-module _ {s : List ℕ} {a : ℕ} {c : ℕ} {q : Slot} (room : Room c s a q) {r : Ans} {t t₁ : List ℕ}
+module _ {s : List ℕ} {a : ℕ} {c : ℕ} {q : Seat} (room : Room c s a q) {r : Ans} {t t₁ : List ℕ}
     (l : Made r s elementName a 1 q 0 t t₁) {e k : ℕ} (h : r ≡ A.Got e k) where
   -- Room for the attributes: a name has no more records than bytes.
-  pub tag-room : c ≤ 3 → {u : List ℕ} {y : ℕ} {q₂ : Slot} → u ≡ s → y ≡ e → q₂ ≡ slotBehind k q → Room 2 u y q₂
+  pub tag-room : c ≤ 3 → {u : List ℕ} {y : ℕ} {q₂ : Seat} → u ≡ s → y ≡ e → q₂ ≡ seatBehind k q → Room 2 u y q₂
   tag-room i f z w =
       let read = made-got l goes-element-name h in
       let far = l .of .far _ _ h in
@@ -94,9 +93,15 @@ module _ {s : List ℕ} {a : ℕ} {c : ℕ} {q : Slot} (room : Room c s a q) {r 
       let few = room .few in
       let thin = elementName-few s (suc (length s)) 0 a read in
       let wide = wide-got s (suc (length s)) elementName 0 a read in
-      rw (f, z, w) (record { short = room .short; inside = far .1; few = omega arith; held = room .held })
+      rw (f, z, w) (record {
+        short = room .short;
+        inside = far .1;
+        few = omega arith;
+        held = room .held;
+        shallow = omega (arith, room .shallow);
+      })
 
-module _ (d : ℕ) {s : List ℕ} {a : ℕ} {q : Slot} {r : Ans} {t t₁ : List ℕ} (l : Made r s elementName a 1 q 0 t t₁) where
+module _ (d : ℕ) {s : List ℕ} {a : ℕ} {q : Seat} {r : Ans} {t t₁ : List ℕ} (l : Made r s elementName a 1 q 0 t t₁) where
   -- The name refuses.
   pub tag-refuses : {x : Tagged} {t′ : List ℕ} {n i b g y : ℕ} → r ≡ A.No n i b g y → plain x ≡ r
       → TagMade x s (within d) a q t t′
@@ -108,7 +113,7 @@ module _ (d : ℕ) {s : List ℕ} {a : ℕ} {q : Slot} {r : Ans} {t t₁ : List 
     unfolding inTag
     tag-begun = upto-begin (inTag (within d)) q 0 t (made-began l h)
 
-    module _ {i : ℕ} (st : Start (length t₁) (6 * k) i) {q₂ : Slot} (eq : q₂ ≡ slotBehind k q) {r₂ : Ans} {u : List ℕ}
+    module _ {i : ℕ} (st : Start (length t₁) (rowWords * k) i) {q₂ : Seat} (eq : q₂ ≡ seatBehind k q) {r₂ : Ans} {u : List ℕ}
         (l₂ : Made r₂ s (attributes (within d)) e 0 q₂ 0 (midOf i (length t₁ - i) t₁) u) where
       tag-named : Upto s (inTag (within d)) a q 0 t (attributes (within d) ⨾ tagEnd) e k t₁
       tag-named = reader-first tag-begun goes-element-name l h
@@ -197,20 +202,20 @@ got-no {X} {r} {p} {m} {n} {a} {b} {c} {d} e f =
     absurd (omega arith)
 
 -- A reader that was lent the part behind v records below the record in the slot q.
-content-lent : (v : ℕ) (q : Slot) (t : List ℕ) {r : Ans} {s : List ℕ} {g : Rule} {p k i : ℕ} {q₁ q₂ : Slot}
+content-lent : (v : ℕ) (q : Seat) (t : List ℕ) {r : Ans} {s : List ℕ} {g : Rule} {p k i : ℕ} {q₁ q₂ : Seat}
     {u t₁ : List ℕ}
-    → Start (length t) (6 * (v + 1)) i
-    → q₁ ≡ slotInside q
-    → q₂ ≡ slotBehind v q₁
+    → Start (length t) (rowWords * (v + 1)) i
+    → q₁ ≡ seatInside q
+    → q₂ ≡ seatBehind v q₁
     → Made r s g p k q₂ 0 (midOf i (length t - i) t) u
     → t₁ ≡ putMid i (length t - i) t u
-    → Made r s g p k (slotBehind v (slotInside q)) (6 * (v + 1)) t t₁
+    → Made r s g p k (seatBehind v (seatInside q)) (rowWords * (v + 1)) t t₁
 content-lent v q t {r} {s} {g} {p} {k} {t₁ = t₁} st eq eq₂ l w =
-    subst (λ (x : Slot). Made r s g p k x (6 * (v + 1)) t t₁) (eq₂ ∙ ap (slotBehind v) eq) (made-lent t st l w)
+    subst (λ (x : Seat). Made r s g p k x (rowWords * (v + 1)) t t₁) (eq₂ ∙ ap (seatBehind v) eq) (made-lent t st l w)
 
-module _ {s : List ℕ} {n : Inner} {o : Opened} {p v : ℕ} {q : Slot} (t : List ℕ) {i : ℕ}
-    (st : Start (length t) (6 * (v + 1)) i) {q₁ : Slot} (eq : q₁ ≡ slotInside q)
-    {q₂ : Slot} (eq₂ : q₂ ≡ slotBehind v q₁)
+module _ {s : List ℕ} {n : Inner} {o : Opened} {p v : ℕ} {q : Seat} (t : List ℕ) {i : ℕ}
+    (st : Start (length t) (rowWords * (v + 1)) i) {q₁ : Seat} (eq : q₁ ≡ seatInside q)
+    {q₂ : Seat} (eq₂ : q₂ ≡ seatBehind v q₁)
     {r : Ans} {u : List ℕ} (l : Made r s (children n) p 0 q₂ 0 (midOf i (length t - i) t) u) where
   -- A child refuses.
   pub content-refuses : {t′ : List ℕ} {x a b c d : ℕ} → r ≡ A.No x a b c d → Content r s n o p v q t t′
@@ -295,28 +300,28 @@ module _ (s : List ℕ) (d at a : ℕ) (pa : Past a s pass at 1) where
 
 -- The rows of an opening tag: those inside it, then its own.
 tag-rows : (s : List ℕ) (d at a : ℕ) → Past a s pass at 1
-    → (q : Slot) (t : List ℕ) {t₁ t₂ : List ℕ} {q₂ : Slot} {z m : ℕ} {b : Bool}
-    → q₂ ≡ slotInside (slotInside q)
+    → (q : Seat) (t : List ℕ) {t₁ t₂ : List ℕ} {q₂ : Seat} {z m : ℕ} {b : Bool}
+    → q₂ ≡ seatInside (seatInside q)
     → readAt s (inTag (within d)) a ≡ got b (rest s d a) z
     → m ≡ count (rest s d a)
-    → t₁ ≡ sets t 12 (rowsFrom q₂ a (rest s d a))
-    → Stored 6 (slotInside q) Kind.openingTag at z 0 m t₁ t₂
-    → t₂ ≡ sets t 6 (rowsFrom (slotInside q) at (opening s d at a))
+    → t₁ ≡ sets t (2 * rowWords) (rowsFrom q₂ a (rest s d a))
+    → Stored rowWords (seatInside q) Kind.openingTag at z 0 m t₁ t₂
+    → t₂ ≡ sets t rowWords (rowsFrom (seatInside q) at (opening s d at a))
 tag-rows s d at a pa q t {z = z} {m} eQ x all w st =
     let C = front s at ⋈ rest s d a in
-    let Q : Slot = slotInside q in
+    let Q : Seat = seatInside q in
     let wide = wide-got s (suc (length s)) (pass ⨾ inTag (within d)) 0 at (inside-read s d at a pa _ x) in
     let none = count-flat (front s at) (flat-front s d at a pa) in
     let sum = count-behind (front s at) (rest s d a) in
     st .is
-    ∙ (λ i. sets (w i) 6 (nodeRow Q Kind.openingTag at z 0 m))
-    ∙ (λ i. sets (sets t 12 (rowsFrom (eQ i) a (rest s d a))) 6 (nodeRow Q Kind.openingTag at z 0 m))
-    ∙ ap (λ (r : List ℕ). sets (sets t 12 r) 6 (nodeRow Q Kind.openingTag at z 0 m))
-    (sym (rows-behind (front s at) (rest s d a) (slotInside Q) at (flat-front s d at a pa) (wide-front s d at a pa)))
-    ∙ headed C t Q at 6 12 Kind.openingTag z 0 m wide (omega arith) refl
+    ∙ (λ i. sets (w i) rowWords (nodeRow Q Kind.openingTag at z 0 m))
+    ∙ (λ i. sets (sets t (2 * rowWords) (rowsFrom (eQ i) a (rest s d a))) rowWords (nodeRow Q Kind.openingTag at z 0 m))
+    ∙ ap (λ (r : List ℕ). sets (sets t (2 * rowWords) r) rowWords (nodeRow Q Kind.openingTag at z 0 m))
+    (sym (rows-behind (front s at) (rest s d a) (seatInside Q) at (flat-front s d at a pa) (wide-front s d at a pa)))
+    ∙ headed C t Q at rowWords (2 * rowWords) Kind.openingTag z 0 m wide (omega arith) refl
 
-module _ (d : ℕ) {s : List ℕ} {at a : ℕ} (pa : Past a s pass at 1) (q : Slot) (t : List ℕ) {i : ℕ}
-    (st : Start (length t) 12 i) {q₁ : Slot} (eq : q₁ ≡ slotInside q) {q₂ : Slot} (eq₂ : q₂ ≡ slotInside q₁)
+module _ (d : ℕ) {s : List ℕ} {at a : ℕ} (pa : Past a s pass at 1) (q : Seat) (t : List ℕ) {i : ℕ}
+    (st : Start (length t) (2 * rowWords) i) {q₁ : Seat} (eq : q₁ ≡ seatInside q) {q₂ : Seat} (eq₂ : q₂ ≡ seatInside q₁)
     {r : Tagged} {u : List ℕ} (l : TagMade r s (within d) a q₂ (midOf i (length t - i) t) u) where
   -- The tag refuses.
   pub named-refuses : {y : Ans} {t′ : List ℕ} {n b c e f : ℕ} → r ≡ No n b c e f → y ≡ plain r
@@ -325,7 +330,7 @@ module _ (d : ℕ) {s : List ℕ} {at a : ℕ} (pa : Past a s pass at 1) (q : Sl
   named-refuses h e = refused (named-no s d at a pa (made-no (l .made) (ap plain h))) (e ∙ ap plain h)
 
   module _ {z m e k g : ℕ} (h : r ≡ Got z m e k g) {t₁ t₂ : List ℕ} (w : t₁ ≡ putMid i (length t - i) t u)
-      (st₂ : Stored 6 (slotInside q) Kind.openingTag at z 0 m t₁ t₂) where
+      (st₂ : Stored rowWords (seatInside q) Kind.openingTag at z 0 m t₁ t₂) where
     named-got : plain r ≡ A.Got z m
     unfolding plain
     named-got = ap plain h
@@ -337,9 +342,9 @@ module _ (d : ℕ) {s : List ℕ} {at a : ℕ} (pa : Past a s pass at 1) (q : Sl
         cc
 
     named-rows : (b : Bool) → readAt s (inTag (within d)) a ≡ got b (rest s d a) z
-        → t₂ ≡ sets t 6 (rowsFrom (slotInside q) at (opening s d at a))
+        → t₂ ≡ sets t rowWords (rowsFrom (seatInside q) at (opening s d at a))
     named-rows b x =
-        tag-rows s d at a pa q t (eq₂ ∙ ap slotInside eq) x (named-count b x)
+        tag-rows s d at a pa q t (eq₂ ∙ ap seatInside eq) x (named-count b x)
         (made-lent t st (l .made) w .of .wrote _ _ named-got) st₂
 
     -- It closes itself.
@@ -361,7 +366,7 @@ module _ (d : ℕ) {s : List ℕ} {at a : ℕ} (pa : Past a s pass at 1) (q : Sl
         let rows : t₃ ≡ sets t 0 (rowsFrom q at (group (node Kind.element 0) O nil)) =
         st₃ .is
         ∙ (λ j. sets (named-rows false read j) 0 (nodeRow q Kind.element at z 0 (ev j)))
-        ∙ headed O t q at 0 6 Kind.element z 0 (m + 1) wide (omega arith) refl in
+        ∙ headed O t q at 0 rowWords Kind.element z 0 (m + 1) wide (omega arith) refl in
         rw (f₁, f₂) (record {
           of = made-done s (group (node Kind.element 0) O nil) at 1 q 0 t t₃ z (m + 2) whole (omega arith)
               (omega arith) rows;
@@ -407,7 +412,7 @@ module _ (d : ℕ) {s : List ℕ} {at a : ℕ} (pa : Past a s pass at 1) (q : Sl
               let sh = subst (λ (y : Opened). Shut r₂ (closingNamed s o p) s Kind.element 1 (y .at) p (v + j) q
               (c .between) t₃) eo (c .ends p j x) in
               paired-shut named-opens (c .made) (R.goes-children d)
-              (ap (λ (y : ℕ). slotBehind y (slotInside q)) ev) (ap (λ (y : ℕ). 6 * (y + 1)) ev) x sh
+              (ap (λ (y : ℕ). seatBehind y (seatInside q)) ev) (ap (λ (y : ℕ). rowWords * (y + 1)) ev) x sh
               (ap (λ (y : ℕ). y + j) ev)
 
 pub ruleset named-steps = (named-refuses, named-single, named-is)
@@ -431,8 +436,8 @@ module _ (s : List ℕ) (at a : ℕ) (pa : Past a s pass at 1) (y : byteAt s a �
   fragment-flat : Flat (front s at ⋈ byte (byteAt s a) nil)
   fragment-flat = flat-got s (suc (length s)) (pass ⨾ expect ">") 0 at bare-opening fragment-inside
 
-module _ (d : ℕ) {s : List ℕ} {at a : ℕ} (pa : Past a s pass at 1) (y : byteAt s a ≡ code ">") (q : Slot) {p : ℕ}
-    (ep : p ≡ a + 1) {t t₁ : List ℕ} (st : Stored 6 (slotInside q) Kind.openingTag at p 0 0 t t₁) where
+module _ (d : ℕ) {s : List ℕ} {at a : ℕ} (pa : Past a s pass at 1) (y : byteAt s a ≡ code ">") (q : Seat) {p : ℕ}
+    (ep : p ≡ a + 1) {t t₁ : List ℕ} (st : Stored rowWords (seatInside q) Kind.openingTag at p 0 0 t t₁) where
   fragment-opens : Opens s d (within d) openFragment (λ o. node Kind.fragment 0) Kind.fragment 0 at (a + 1) 0
       (closing s at (a + 1 - at) noName) q t t₁
   unfolding openFragment inside
@@ -449,22 +454,22 @@ module _ (d : ℕ) {s : List ℕ} {at a : ℕ} (pa : Past a s pass at 1) (y : by
         under = C;
         tag = tag;
         wrote = st .is
-            ∙ (λ i. sets t 6 (nodeRow (slotInside q) Kind.openingTag at (ep i) 0 0))
-            ∙ ap (sets t 6) (leaf-row C (slotInside q) at Kind.openingTag (a + 1) 0 wide none);
+            ∙ (λ i. sets t rowWords (nodeRow (seatInside q) Kind.openingTag at (ep i) 0 0))
+            ∙ ap (sets t rowWords) (leaf-row C (seatInside q) at Kind.openingTag (a + 1) 0 wide none);
         all = sym none;
         few = omega arith;
         closed = λ v c b kids. paired-plain s openFragment (children (within d)) d at c tag kids (no-name C flat);
         says = λ v x. refl;
       }
 
-  module _ {i : ℕ} (st₂ : Start (length t₁) 12 i) {q₂ : Slot} (eq₂ : q₂ ≡ slotInside q) {q₃ : Slot}
-      (eq₃ : q₃ ≡ slotBehind 1 q₂) {r : Ans} {p₁ : ℕ} (ep₁ : p₁ ≡ a + 1) {u : List ℕ}
+  module _ {i : ℕ} (st₂ : Start (length t₁) (2 * rowWords) i) {q₂ : Seat} (eq₂ : q₂ ≡ seatInside q) {q₃ : Seat}
+      (eq₃ : q₃ ≡ seatBehind 1 q₂) {r : Ans} {p₁ : ℕ} (ep₁ : p₁ ≡ a + 1) {u : List ℕ}
       (l : Made r s (children (within d)) p₁ 0 q₃ 0 (midOf i (length t₁ - i) t₁) u) where
     fragment-lent : {t₂ : List ℕ} → t₂ ≡ putMid i (length t₁ - i) t₁ u
-        → Made r s (children (within d)) (a + 1) 0 (slotBehind 1 (slotInside q)) 12 t₁ t₂
+        → Made r s (children (within d)) (a + 1) 0 (seatBehind 1 (seatInside q)) (2 * rowWords) t₁ t₂
     fragment-lent {t₂} w =
-        subst (λ (x : ℕ). Made r s (children (within d)) x 0 (slotBehind 1 (slotInside q)) 12 t₁ t₂) ep₁
-        (subst (λ (x : Slot). Made r s (children (within d)) p₁ 0 x 12 t₁ t₂) (eq₃ ∙ ap (slotBehind 1) eq₂)
+        subst (λ (x : ℕ). Made r s (children (within d)) x 0 (seatBehind 1 (seatInside q)) (2 * rowWords) t₁ t₂) ep₁
+        (subst (λ (x : Seat). Made r s (children (within d)) p₁ 0 x (2 * rowWords) t₁ t₂) (eq₃ ∙ ap (seatBehind 1) eq₂)
         (made-lent t₁ st₂ l w))
 
     -- A child refuses.

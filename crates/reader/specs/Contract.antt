@@ -12,8 +12,7 @@ use Rattle.jsx.specs.Element.{child, children}
 use Rattle.lex.specs.Contract.{outOf}
 use Rattle.lex.specs.declared.Ans.{Ans}
 use Rattle.lex.specs.declared.Ans.the-variants as A
-use Rattle.table.specs.declared.Slot.{Slot}
-use Rattle.table.specs.Slot.{slotInside, slotBehind}
+use Rattle.table.specs.Slot.{Seat, seatInside, seatBehind}
 use Rattle.table.specs.Reader.{Room, Made}
 use Rattle.same.specs.Contract.{Named}
 use Rattle.tag.specs.declared.Opened.{Opened}
@@ -30,7 +29,7 @@ plain (No n a b c d) = A.No n a b c d
 
 -- The inside of an opening tag was read from its name on, at a. Where it was got, its name ends at e and has k records,
 -- and g is 0 where the tag stops, with no content.
-pub record TagMade (r : Tagged) (s : List ℕ) (n : Inner) (a : ℕ) (q : Slot) (t t′ : List ℕ) : Type 0 where
+pub record TagMade (r : Tagged) (s : List ℕ) (n : Inner) (a : ℕ) (q : Seat) (t t′ : List ℕ) : Type 0 where
   pub made : Made (plain r) s (inTag n) a 2 q 0 t t′
   pub name : (z m e k g : ℕ) → r ≡ Got z m e k g → Named s a e × (k ≡ nameCount s a)
   pub stops : (z m e k g : ℕ) → r ≡ Got z m e k g → g ≡ 0
@@ -39,23 +38,23 @@ pub record TagMade (r : Tagged) (s : List ℕ) (n : Inner) (a : ℕ) (q : Slot) 
       → readAt s (inTag n) a ≡ got true (outOf (readAt s (inTag n) a)) z
 
 -- Behind v records below the record in the slot q, which begins at `at`, there is room at p.
-pub record Ready (s : List ℕ) (at p v : ℕ) (q : Slot) : Type 0 where
-  pub room : Room 3 s p (slotBehind v (slotInside q))
+pub record Ready (s : List ℕ) (at p v : ℕ) (q : Seat) : Type 0 where
+  pub room : Room 3 s p (seatBehind v (seatInside q))
   pub held : q .parent < 2 ^ 32
   pub from : at ≤ p
 
 -- Children were read from p on, behind v records below an element that stands in the slot q; where they were got, its
 -- closing tag was read, and the element's record stored.
-pub record Content (r : Ans) (s : List ℕ) (n : Inner) (o : Opened) (p v : ℕ) (q : Slot) (t t′ : List ℕ) : Type 0 where
+pub record Content (r : Ans) (s : List ℕ) (n : Inner) (o : Opened) (p v : ℕ) (q : Seat) (t t′ : List ℕ) : Type 0 where
   pub held : Ans
   pub between : List ℕ
-  pub made : Made held s (children n) p 0 (slotBehind v (slotInside q)) (rowWords * (v + 1)) t between
+  pub made : Made held s (children n) p 0 (seatBehind v (seatInside q)) (rowWords * (v + 1)) t between
   pub refuses : (n a b c d : ℕ) → held ≡ A.No n a b c d → r ≡ A.No n a b c d
   pub ends : (c k : ℕ) → held ≡ A.Got c k
       → Shut r (closingNamed s o c) s Kind.element 1 (o .at) c (v + k) q between t′
 
 -- One child was read; or it stays, and the children end here.
-pub record ChildMade (r : Ans) (s : List ℕ) (n : Inner) (at : ℕ) (q : Slot) (t t′ : List ℕ) : Type 0 where
+pub record ChildMade (r : Ans) (s : List ℕ) (n : Inner) (at : ℕ) (q : Seat) (t t′ : List ℕ) : Type 0 where
   pub made : Made r s (child n) at 0 q 0 t t′
   pub stays : (m : ℕ) → r ≡ A.Got at m → readAt s (child n) at ≡ got false nil at
   pub goes : (z m : ℕ) → r ≡ A.Got z m → (z ≡ at → ⊥)

@@ -14,6 +14,7 @@ ghost use Rattle.jsx.specs.Tag.{value as valueRule, attribute, attributes};
 ghost use Rattle.jsx.specs.Element.{children as childrenRule, fragmentIn, namedIn};
 ghost use Rattle.jsx.specs.Depth.{within};
 ghost use Rattle.lex.specs.Contract.{Past};
+ghost use Rattle.table.specs.Slot.{seat};
 ghost use Rattle.table.specs.Reader.{Room, Made};
 ghost use Rattle.tag.specs.Close.{Opening};
 ghost use Rattle.reader.specs.Cut.{groupBy, arguments, tailOf, operandTurn, armsOf, inContainer, inSpread};
@@ -70,8 +71,8 @@ fn plain(r: Tagged) -> Ans
 
 // `(conditional)` or `[conditional]`, by the byte that closes it.
 fn group(t: &mut [u32], s: &[u8], at: usize, close: u32, d: usize, slot: Slot) -> Ans
-    requires { ⌜ Room 3 (now s) at slot × (at < length (now s)) × (close < 256) ⌝ }
-    ensures { λ r. ⌜ Made r (now (s .entry)) (groupBy close d) at 1 slot 0 (now (t .entry)) (now (t .exit)) ⌝ }
+    requires { ⌜ Room 3 (now s) at (seat slot) × (at < length (now s)) × (close < 256) ⌝ }
+    ensures { λ r. ⌜ Made r (now (s .entry)) (groupBy close d) at 1 (seat slot) 0 (now (t .entry)) (now (t .exit)) ⌝ }
 {
     if d == 0 {
         return Ans::No(TOO_DEEP, at, at, 0, 0);
@@ -93,8 +94,8 @@ fn group(t: &mut [u32], s: &[u8], at: usize, close: u32, d: usize, slot: Slot) -
 
 // A call: its parenthesis, and nothing or conditionals in it.
 fn call(t: &mut [u32], s: &[u8], at: usize, d: usize, slot: Slot) -> Ans
-    requires { ⌜ Room 3 (now s) at slot × (at < length (now s)) ⌝ }
-    ensures { λ r. ⌜ Made r (now (s .entry)) (within d .call) at 1 slot 0 (now (t .entry)) (now (t .exit)) ⌝ }
+    requires { ⌜ Room 3 (now s) at (seat slot) × (at < length (now s)) ⌝ }
+    ensures { λ r. ⌜ Made r (now (s .entry)) (within d .call) at 1 (seat slot) 0 (now (t .entry)) (now (t .exit)) ⌝ }
 {
     if d == 0 {
         return Ans::No(TOO_DEEP, at, at, 0, 0);
@@ -111,8 +112,8 @@ fn call(t: &mut [u32], s: &[u8], at: usize, d: usize, slot: Slot) -> Ans
 
 // One or more conditionals with commas between them, and `)`.
 fn args(t: &mut [u32], s: &[u8], at: usize, d: usize, slot: Slot) -> Ans
-    requires { ⌜ Room 3 (now s) at slot ⌝ }
-    ensures { λ r. ⌜ Made r (now (s .entry)) (arguments (within d)) at 1 slot 0 (now (t .entry)) (now (t .exit)) ⌝ }
+    requires { ⌜ Room 3 (now s) at (seat slot) ⌝ }
+    ensures { λ r. ⌜ Made r (now (s .entry)) (arguments (within d)) at 1 (seat slot) 0 (now (t .entry)) (now (t .exit)) ⌝ }
 {
     let r = cond(t, s, at, d, slot);
     let Ans::Got(e, k) = r else {
@@ -132,8 +133,8 @@ fn args(t: &mut [u32], s: &[u8], at: usize, d: usize, slot: Slot) -> Ans
 
 // Conditionals behind the first of a call, each behind a comma, as many as there are.
 fn more(t: &mut [u32], s: &[u8], at: usize, d: usize, slot: Slot) -> Ans
-    requires { ⌜ Room 3 (now s) at slot ⌝ }
-    ensures { λ r. ⌜ Made r (now (s .entry)) (many (argumentTurn (within d))) at 0 slot 0
+    requires { ⌜ Room 3 (now s) at (seat slot) ⌝ }
+    ensures { λ r. ⌜ Made r (now (s .entry)) (many (argumentTurn (within d))) at 0 (seat slot) 0
         (now (t .entry)) (now (t .exit)) ⌝ }
 {
     let mut p = at; // the last one ends here
@@ -158,8 +159,8 @@ fn more(t: &mut [u32], s: &[u8], at: usize, d: usize, slot: Slot) -> Ans
 
 // A name, a number, a string or `(conditional)`.
 fn prim(t: &mut [u32], s: &[u8], at: usize, d: usize, slot: Slot) -> Ans
-    requires { ⌜ Room 3 (now s) at slot ⌝ }
-    ensures { λ r. ⌜ Made r (now (s .entry)) (primaryRule (within d)) at 1 slot 0 (now (t .entry)) (now (t .exit)) ⌝ }
+    requires { ⌜ Room 3 (now s) at (seat slot) ⌝ }
+    ensures { λ r. ⌜ Made r (now (s .entry)) (primaryRule (within d)) at 1 (seat slot) 0 (now (t .entry)) (now (t .exit)) ⌝ }
 {
     let b = lex::byte(s, at);
     if word::opens_name(b) {
@@ -179,8 +180,8 @@ fn prim(t: &mut [u32], s: &[u8], at: usize, d: usize, slot: Slot) -> Ans
 
 // `.name`, `[conditional]` or a call.
 fn tail(t: &mut [u32], s: &[u8], at: usize, d: usize, slot: Slot) -> Ans
-    requires { ⌜ Room 3 (now s) at slot ⌝ }
-    ensures { λ r. ⌜ Made r (now (s .entry)) (tailOf (within d)) at 1 slot 0 (now (t .entry)) (now (t .exit)) ⌝ }
+    requires { ⌜ Room 3 (now s) at (seat slot) ⌝ }
+    ensures { λ r. ⌜ Made r (now (s .entry)) (tailOf (within d)) at 1 (seat slot) 0 (now (t .entry)) (now (t .exit)) ⌝ }
 {
     let b = lex::byte(s, at);
     if b == DOT {
@@ -197,8 +198,8 @@ fn tail(t: &mut [u32], s: &[u8], at: usize, d: usize, slot: Slot) -> Ans
 
 // What stands behind a primary: `.name`, `[conditional]` and calls, as many as there are.
 fn tails(t: &mut [u32], s: &[u8], at: usize, d: usize, slot: Slot) -> Ans
-    requires { ⌜ Room 3 (now s) at slot ⌝ }
-    ensures { λ r. ⌜ Made r (now (s .entry)) (many (postfixTurn (within d))) at 0 slot 0
+    requires { ⌜ Room 3 (now s) at (seat slot) ⌝ }
+    ensures { λ r. ⌜ Made r (now (s .entry)) (many (postfixTurn (within d))) at 0 (seat slot) 0
         (now (t .entry)) (now (t .exit)) ⌝ }
 {
     let mut p = at; // the last one ends here
@@ -223,8 +224,8 @@ fn tails(t: &mut [u32], s: &[u8], at: usize, d: usize, slot: Slot) -> Ans
 
 // A primary and what stands behind it.
 fn postfix(t: &mut [u32], s: &[u8], at: usize, d: usize, slot: Slot) -> Ans
-    requires { ⌜ Room 3 (now s) at slot ⌝ }
-    ensures { λ r. ⌜ Made r (now (s .entry)) (postfixRule (within d)) at 1 slot 0 (now (t .entry)) (now (t .exit)) ⌝ }
+    requires { ⌜ Room 3 (now s) at (seat slot) ⌝ }
+    ensures { λ r. ⌜ Made r (now (s .entry)) (postfixRule (within d)) at 1 (seat slot) 0 (now (t .entry)) (now (t .exit)) ⌝ }
 {
     let r = prim(t, s, at, d, slot);
     let Ans::Got(e, k) = r else {
@@ -240,8 +241,8 @@ fn postfix(t: &mut [u32], s: &[u8], at: usize, d: usize, slot: Slot) -> Ans
 
 // `!` or `-` and its operand.
 fn prefix(t: &mut [u32], s: &[u8], at: usize, d: usize, slot: Slot) -> Ans
-    requires { ⌜ Room 3 (now s) at slot × (at < length (now s)) ⌝ }
-    ensures { λ r. ⌜ Made r (now (s .entry)) (within d .prefix) at 1 slot 0 (now (t .entry)) (now (t .exit)) ⌝ }
+    requires { ⌜ Room 3 (now s) at (seat slot) × (at < length (now s)) ⌝ }
+    ensures { λ r. ⌜ Made r (now (s .entry)) (within d .prefix) at 1 (seat slot) 0 (now (t .entry)) (now (t .exit)) ⌝ }
 {
     if d == 0 {
         return Ans::No(TOO_DEEP, at, at, 0, 0);
@@ -255,8 +256,8 @@ fn prefix(t: &mut [u32], s: &[u8], at: usize, d: usize, slot: Slot) -> Ans
 
 // An element or a fragment that is no child, and nothing behind it that n or 12 refuses.
 fn lone(t: &mut [u32], s: &[u8], at: usize, n: u32, d: usize, slot: Slot) -> Ans
-    requires { ⌜ Room 3 (now s) at slot × (at < length (now s)) ⌝ }
-    ensures { λ r. ⌜ Made r (now (s .entry)) (within d .element ⨾ noSibling n) at 1 slot 0
+    requires { ⌜ Room 3 (now s) at (seat slot) × (at < length (now s)) ⌝ }
+    ensures { λ r. ⌜ Made r (now (s .entry)) (within d .element ⨾ noSibling n) at 1 (seat slot) 0
         (now (t .entry)) (now (t .exit)) ⌝ }
 {
     let r = blank::pass(s, at);
@@ -276,8 +277,8 @@ fn lone(t: &mut [u32], s: &[u8], at: usize, n: u32, d: usize, slot: Slot) -> Ans
 
 // `!` or `-` before a unary, an element or a fragment, or a postfix.
 fn unary(t: &mut [u32], s: &[u8], at: usize, d: usize, slot: Slot) -> Ans
-    requires { ⌜ Room 3 (now s) at slot ⌝ }
-    ensures { λ r. ⌜ Made r (now (s .entry)) (unaryRule (within d)) at 1 slot 0 (now (t .entry)) (now (t .exit)) ⌝ }
+    requires { ⌜ Room 3 (now s) at (seat slot) ⌝ }
+    ensures { λ r. ⌜ Made r (now (s .entry)) (unaryRule (within d)) at 1 (seat slot) 0 (now (t .entry)) (now (t .exit)) ⌝ }
 {
     let b = lex::byte(s, at);
     if b == BANG {
@@ -297,8 +298,8 @@ fn unary(t: &mut [u32], s: &[u8], at: usize, d: usize, slot: Slot) -> Ans
 
 // Unaries behind the first, each behind an operator, as many as there are.
 fn joins(t: &mut [u32], s: &[u8], at: usize, d: usize, slot: Slot) -> Ans
-    requires { ⌜ Room 3 (now s) at slot ⌝ }
-    ensures { λ r. ⌜ Made r (now (s .entry)) (many (operandTurn (within d))) at 0 slot 0
+    requires { ⌜ Room 3 (now s) at (seat slot) ⌝ }
+    ensures { λ r. ⌜ Made r (now (s .entry)) (many (operandTurn (within d))) at 0 (seat slot) 0
         (now (t .entry)) (now (t .exit)) ⌝ }
 {
     let mut p = at; // the last one ends here
@@ -323,8 +324,8 @@ fn joins(t: &mut [u32], s: &[u8], at: usize, d: usize, slot: Slot) -> Ans
 
 // Unaries with operators between them: every level from `*` to `||`.
 fn either(t: &mut [u32], s: &[u8], at: usize, d: usize, slot: Slot) -> Ans
-    requires { ⌜ Room 3 (now s) at slot ⌝ }
-    ensures { λ r. ⌜ Made r (now (s .entry)) (eitherRule (within d)) at 1 slot 0 (now (t .entry)) (now (t .exit)) ⌝ }
+    requires { ⌜ Room 3 (now s) at (seat slot) ⌝ }
+    ensures { λ r. ⌜ Made r (now (s .entry)) (eitherRule (within d)) at 1 (seat slot) 0 (now (t .entry)) (now (t .exit)) ⌝ }
 {
     let r = unary(t, s, at, d, slot);
     let Ans::Got(e, k) = r else {
@@ -340,8 +341,8 @@ fn either(t: &mut [u32], s: &[u8], at: usize, d: usize, slot: Slot) -> Ans
 
 // A conditional: an either, and a choice if a `?` stands behind it.
 fn cond(t: &mut [u32], s: &[u8], at: usize, d: usize, slot: Slot) -> Ans
-    requires { ⌜ Room 3 (now s) at slot ⌝ }
-    ensures { λ r. ⌜ Made r (now (s .entry)) (conditional (within d)) at 1 slot 0 (now (t .entry)) (now (t .exit)) ⌝ }
+    requires { ⌜ Room 3 (now s) at (seat slot) ⌝ }
+    ensures { λ r. ⌜ Made r (now (s .entry)) (conditional (within d)) at 1 (seat slot) 0 (now (t .entry)) (now (t .exit)) ⌝ }
 {
     let r = either(t, s, at, d, slot);
     let Ans::Got(e, k) = r else {
@@ -364,8 +365,8 @@ fn cond(t: &mut [u32], s: &[u8], at: usize, d: usize, slot: Slot) -> Ans
 
 // `?` conditional `:` conditional, whose `?` was seen; `?.` and `??` are refused.
 fn choice(t: &mut [u32], s: &[u8], at: usize, d: usize, slot: Slot) -> Ans
-    requires { ⌜ Room 3 (now s) at slot × (at < length (now s)) ⌝ }
-    ensures { λ r. ⌜ Made r (now (s .entry)) (question (within d)) at 1 slot 0 (now (t .entry)) (now (t .exit)) ⌝ }
+    requires { ⌜ Room 3 (now s) at (seat slot) × (at < length (now s)) ⌝ }
+    ensures { λ r. ⌜ Made r (now (s .entry)) (question (within d)) at 1 (seat slot) 0 (now (t .entry)) (now (t .exit)) ⌝ }
 {
     if lex::two_at(s, at, QUESTION, DOT) {
         return Ans::No(UNEXPECTED, at, at, 0, 0);
@@ -385,8 +386,8 @@ fn choice(t: &mut [u32], s: &[u8], at: usize, d: usize, slot: Slot) -> Ans
 
 // Conditional `:` conditional.
 fn arms(t: &mut [u32], s: &[u8], at: usize, d: usize, slot: Slot) -> Ans
-    requires { ⌜ Room 3 (now s) at slot ⌝ }
-    ensures { λ r. ⌜ Made r (now (s .entry)) (armsOf (within d)) at 1 slot 0 (now (t .entry)) (now (t .exit)) ⌝ }
+    requires { ⌜ Room 3 (now s) at (seat slot) ⌝ }
+    ensures { λ r. ⌜ Made r (now (s .entry)) (armsOf (within d)) at 1 (seat slot) 0 (now (t .entry)) (now (t .exit)) ⌝ }
 {
     let r = cond(t, s, at, d, slot);
     let Ans::Got(e, k) = r else {
@@ -406,8 +407,8 @@ fn arms(t: &mut [u32], s: &[u8], at: usize, d: usize, slot: Slot) -> Ans
 
 // An expression: a conditional and its record.
 fn expr(t: &mut [u32], s: &[u8], at: usize, d: usize, slot: Slot) -> Ans
-    requires { ⌜ Room 2 (now s) at slot ⌝ }
-    ensures { λ r. ⌜ Made r (now (s .entry)) (expression (within d)) at 1 slot 0 (now (t .entry)) (now (t .exit)) ⌝ }
+    requires { ⌜ Room 2 (now s) at (seat slot) ⌝ }
+    ensures { λ r. ⌜ Made r (now (s .entry)) (expression (within d)) at 1 (seat slot) 0 (now (t .entry)) (now (t .exit)) ⌝ }
 {
     let i = table::start(t.len(), ROW_WORDS);
     let r = cond(&mut t[i..], s, at, d, slot.inside());
@@ -422,8 +423,8 @@ fn expr(t: &mut [u32], s: &[u8], at: usize, d: usize, slot: Slot) -> Ans
 
 // An expression and `}`.
 fn in_held(t: &mut [u32], s: &[u8], at: usize, d: usize, slot: Slot) -> Ans
-    requires { ⌜ Room 2 (now s) at slot ⌝ }
-    ensures { λ r. ⌜ Made r (now (s .entry)) (inContainer (within d)) at 2 slot 0 (now (t .entry)) (now (t .exit)) ⌝ }
+    requires { ⌜ Room 2 (now s) at (seat slot) ⌝ }
+    ensures { λ r. ⌜ Made r (now (s .entry)) (inContainer (within d)) at 2 (seat slot) 0 (now (t .entry)) (now (t .exit)) ⌝ }
 {
     let r = expr(t, s, at, d, slot);
     let Ans::Got(e, m) = r else {
@@ -438,8 +439,8 @@ fn in_held(t: &mut [u32], s: &[u8], at: usize, d: usize, slot: Slot) -> Ans
 
 // `{expression}` and its record.
 fn held(t: &mut [u32], s: &[u8], at: usize, q: usize, d: usize, slot: Slot) -> Ans
-    requires { ⌜ Room 3 (now s) at slot × Past q (now s) pass at 1 ⌝ }
-    ensures { λ r. ⌜ Made r (now (s .entry)) (container (within d)) at 3 slot 0 (now (t .entry)) (now (t .exit)) ⌝ }
+    requires { ⌜ Room 3 (now s) at (seat slot) × Past q (now s) pass at 1 ⌝ }
+    ensures { λ r. ⌜ Made r (now (s .entry)) (container (within d)) at 3 (seat slot) 0 (now (t .entry)) (now (t .exit)) ⌝ }
 {
     let i = table::start(t.len(), ROW_WORDS);
     let r = in_held(&mut t[i..], s, q, d, slot.inside());
@@ -452,8 +453,8 @@ fn held(t: &mut [u32], s: &[u8], at: usize, q: usize, d: usize, slot: Slot) -> A
 
 // `...`, an expression and `}`.
 fn in_rest(t: &mut [u32], s: &[u8], at: usize, d: usize, slot: Slot) -> Ans
-    requires { ⌜ Room 2 (now s) at slot ⌝ }
-    ensures { λ r. ⌜ Made r (now (s .entry)) (inSpread (within d)) at 2 slot 0 (now (t .entry)) (now (t .exit)) ⌝ }
+    requires { ⌜ Room 2 (now s) at (seat slot) ⌝ }
+    ensures { λ r. ⌜ Made r (now (s .entry)) (inSpread (within d)) at 2 (seat slot) 0 (now (t .entry)) (now (t .exit)) ⌝ }
 {
     let r = token::dots(s, at);
     let Ans::Got(p, _) = r else {
@@ -472,8 +473,8 @@ fn in_rest(t: &mut [u32], s: &[u8], at: usize, d: usize, slot: Slot) -> Ans
 
 // `{...expression}` and its record, of this kind.
 fn spread(t: &mut [u32], s: &[u8], at: usize, q: usize, kind: usize, d: usize, slot: Slot) -> Ans
-    requires { ⌜ Room 3 (now s) at slot × Past q (now s) pass at 1 × (kind < 2 ^ 32) ⌝ }
-    ensures { λ r. ⌜ Made r (now (s .entry)) (spreadRule kind (within d)) at 3 slot 0
+    requires { ⌜ Room 3 (now s) at (seat slot) × Past q (now s) pass at 1 × (kind < 2 ^ 32) ⌝ }
+    ensures { λ r. ⌜ Made r (now (s .entry)) (spreadRule kind (within d)) at 3 (seat slot) 0
         (now (t .entry)) (now (t .exit)) ⌝ }
 {
     let i = table::start(t.len(), ROW_WORDS);
@@ -489,8 +490,8 @@ fn spread(t: &mut [u32], s: &[u8], at: usize, q: usize, kind: usize, d: usize, s
 
 // A value: a quoted string, `{expression}`, an element or a fragment.
 fn value(t: &mut [u32], s: &[u8], at: usize, d: usize, slot: Slot) -> Ans
-    requires { ⌜ Room 3 (now s) at slot ⌝ }
-    ensures { λ r. ⌜ Made r (now (s .entry)) (valueRule (within d)) at 1 slot 0 (now (t .entry)) (now (t .exit)) ⌝ }
+    requires { ⌜ Room 3 (now s) at (seat slot) ⌝ }
+    ensures { λ r. ⌜ Made r (now (s .entry)) (valueRule (within d)) at 1 (seat slot) 0 (now (t .entry)) (now (t .exit)) ⌝ }
 {
     let b = lex::byte(s, at);
     if text::is_quote(b) {
@@ -517,8 +518,8 @@ fn value(t: &mut [u32], s: &[u8], at: usize, d: usize, slot: Slot) -> Ans
 
 // A name, and a value if `=` stands behind it.
 fn in_attr(t: &mut [u32], s: &[u8], at: usize, d: usize, slot: Slot) -> Ans
-    requires { ⌜ Room 3 (now s) at slot ⌝ }
-    ensures { λ r. ⌜ Made r (now (s .entry)) (inAttribute (within d)) at 1 slot 0 (now (t .entry)) (now (t .exit)) ⌝ }
+    requires { ⌜ Room 3 (now s) at (seat slot) ⌝ }
+    ensures { λ r. ⌜ Made r (now (s .entry)) (inAttribute (within d)) at 1 (seat slot) 0 (now (t .entry)) (now (t .exit)) ⌝ }
 {
     let r = name::parse_jsx_attribute_name(t, s, at, slot);
     let Ans::Got(e, k) = r else {
@@ -541,8 +542,8 @@ fn in_attr(t: &mut [u32], s: &[u8], at: usize, d: usize, slot: Slot) -> Ans
 
 // An attribute and its record: `{...expression}`, or a name and a value.
 fn attr(t: &mut [u32], s: &[u8], at: usize, d: usize, slot: Slot) -> Ans
-    requires { ⌜ Room 2 (now s) at slot ⌝ }
-    ensures { λ r. ⌜ Made r (now (s .entry)) (attribute (within d)) at 1 slot 0 (now (t .entry)) (now (t .exit)) ⌝ }
+    requires { ⌜ Room 2 (now s) at (seat slot) ⌝ }
+    ensures { λ r. ⌜ Made r (now (s .entry)) (attribute (within d)) at 1 (seat slot) 0 (now (t .entry)) (now (t .exit)) ⌝ }
 {
     if lex::byte(s, at) == OPEN_BRACE {
         if d == 0 {
@@ -565,8 +566,8 @@ fn attr(t: &mut [u32], s: &[u8], at: usize, d: usize, slot: Slot) -> Ans
 
 // Attributes, as many as there are, up to `/` or `>`.
 fn attrs(t: &mut [u32], s: &[u8], at: usize, d: usize, slot: Slot) -> Ans
-    requires { ⌜ Room 2 (now s) at slot ⌝ }
-    ensures { λ r. ⌜ Made r (now (s .entry)) (attributes (within d)) at 0 slot 0 (now (t .entry)) (now (t .exit)) ⌝ }
+    requires { ⌜ Room 2 (now s) at (seat slot) ⌝ }
+    ensures { λ r. ⌜ Made r (now (s .entry)) (attributes (within d)) at 0 (seat slot) 0 (now (t .entry)) (now (t .exit)) ⌝ }
 {
     let mut p = at; // the last one ends here
     let mut m = 0; // as many records were made
@@ -592,8 +593,8 @@ fn attrs(t: &mut [u32], s: &[u8], at: usize, d: usize, slot: Slot) -> Ans
 
 // The inside of an opening tag from its name on: the name, attributes, and the tag's end.
 fn in_tag(t: &mut [u32], s: &[u8], a: usize, d: usize, slot: Slot) -> Tagged
-    requires { ⌜ Room 3 (now s) a slot ⌝ }
-    ensures { λ r. ⌜ TagMade r (now (s .entry)) (within d) a slot (now (t .entry)) (now (t .exit)) ⌝ }
+    requires { ⌜ Room 3 (now s) a (seat slot) ⌝ }
+    ensures { λ r. ⌜ TagMade r (now (s .entry)) (within d) a (seat slot) (now (t .entry)) (now (t .exit)) ⌝ }
 {
     let r = name::parse_jsx_element_name(t, s, a, slot);
     let Ans::Got(e, k) = r else {
@@ -614,8 +615,8 @@ fn in_tag(t: &mut [u32], s: &[u8], a: usize, d: usize, slot: Slot) -> Tagged
 // The children and the closing tag of an element whose opening tag ends at p, with v records below the element so far;
 // then the element's record.
 fn content(t: &mut [u32], s: &[u8], name: Opened, p: usize, v: usize, d: usize, slot: Slot) -> Ans
-    requires { ⌜ Opening (now s) name × Ready (now s) (name .at) p v slot ⌝ }
-    ensures { λ r. ⌜ Content r (now (s .entry)) (within d) name p v slot (now (t .entry)) (now (t .exit)) ⌝ }
+    requires { ⌜ Opening (now s) name × Ready (now s) (name .at) p v (seat slot) ⌝ }
+    ensures { λ r. ⌜ Content r (now (s .entry)) (within d) name p v (seat slot) (now (t .entry)) (now (t .exit)) ⌝ }
 {
     let i = table::start(t.len(), ROW_WORDS * (v + 1));
     let r = children(&mut t[i..], s, p, d, slot.inside().behind(v));
@@ -627,8 +628,8 @@ fn content(t: &mut [u32], s: &[u8], name: Opened, p: usize, v: usize, d: usize, 
 
 // An element and its record, with d levels inside it.
 fn named(t: &mut [u32], s: &[u8], at: usize, a: usize, d: usize, slot: Slot) -> Ans
-    requires { ⌜ Room 3 (now s) at slot × Past a (now s) pass at 1 ⌝ }
-    ensures { λ r. ⌜ Made r (now (s .entry)) (namedIn d (within d)) at 1 slot 0 (now (t .entry)) (now (t .exit)) ⌝ }
+    requires { ⌜ Room 3 (now s) at (seat slot) × Past a (now s) pass at 1 ⌝ }
+    ensures { λ r. ⌜ Made r (now (s .entry)) (namedIn d (within d)) at 1 (seat slot) 0 (now (t .entry)) (now (t .exit)) ⌝ }
 {
     let i = table::start(t.len(), 2 * ROW_WORDS);
     let r = in_tag(&mut t[i..], s, a, d, slot.inside().inside());
@@ -658,8 +659,8 @@ fn named(t: &mut [u32], s: &[u8], at: usize, a: usize, d: usize, slot: Slot) -> 
 
 // A fragment and its record, with d levels inside it.
 fn frag(t: &mut [u32], s: &[u8], at: usize, a: usize, d: usize, slot: Slot) -> Ans
-    requires { ⌜ Room 3 (now s) at slot × Past a (now s) pass at 1 × (byteAt (now s) a ≡ 62) ⌝ }
-    ensures { λ r. ⌜ Made r (now (s .entry)) (fragmentIn d (within d)) at 1 slot 0 (now (t .entry)) (now (t .exit)) ⌝ }
+    requires { ⌜ Room 3 (now s) at (seat slot) × Past a (now s) pass at 1 × (byteAt (now s) a ≡ 62) ⌝ }
+    ensures { λ r. ⌜ Made r (now (s .entry)) (fragmentIn d (within d)) at 1 (seat slot) 0 (now (t .entry)) (now (t .exit)) ⌝ }
 {
     token::put_opening(t, at, a + 1, 0, slot);
     let i = table::start(t.len(), 2 * ROW_WORDS);
@@ -672,8 +673,8 @@ fn frag(t: &mut [u32], s: &[u8], at: usize, a: usize, d: usize, slot: Slot) -> A
 
 // An element or a fragment.
 fn elem(t: &mut [u32], s: &[u8], at: usize, a: usize, d: usize, slot: Slot) -> Ans
-    requires { ⌜ Room 3 (now s) at slot × Past a (now s) pass at 1 ⌝ }
-    ensures { λ r. ⌜ Made r (now (s .entry)) (within d .element) at 1 slot 0 (now (t .entry)) (now (t .exit)) ⌝ }
+    requires { ⌜ Room 3 (now s) at (seat slot) × Past a (now s) pass at 1 ⌝ }
+    ensures { λ r. ⌜ Made r (now (s .entry)) (within d .element) at 1 (seat slot) 0 (now (t .entry)) (now (t .exit)) ⌝ }
 {
     if d == 0 {
         return token::too_deep(s, at, a);
@@ -686,8 +687,8 @@ fn elem(t: &mut [u32], s: &[u8], at: usize, a: usize, d: usize, slot: Slot) -> A
 
 // One child; or it stays where it is, and the children end there.
 fn child(t: &mut [u32], s: &[u8], at: usize, d: usize, slot: Slot) -> Ans
-    requires { ⌜ Room 3 (now s) at slot ⌝ }
-    ensures { λ r. ⌜ ChildMade r (now (s .entry)) (within d) at slot (now (t .entry)) (now (t .exit)) ⌝ }
+    requires { ⌜ Room 3 (now s) at (seat slot) ⌝ }
+    ensures { λ r. ⌜ ChildMade r (now (s .entry)) (within d) at (seat slot) (now (t .entry)) (now (t .exit)) ⌝ }
 {
     let b = lex::byte(s, at);
     if text::in_text(b) {
@@ -728,8 +729,8 @@ fn child(t: &mut [u32], s: &[u8], at: usize, d: usize, slot: Slot) -> Ans
 
 // Children, as many as there are, up to the end or a `<` that a `/` follows.
 fn children(t: &mut [u32], s: &[u8], at: usize, d: usize, slot: Slot) -> Ans
-    requires { ⌜ Room 3 (now s) at slot ⌝ }
-    ensures { λ r. ⌜ Made r (now (s .entry)) (childrenRule (within d)) at 0 slot 0 (now (t .entry)) (now (t .exit)) ⌝ }
+    requires { ⌜ Room 3 (now s) at (seat slot) ⌝ }
+    ensures { λ r. ⌜ Made r (now (s .entry)) (childrenRule (within d)) at 0 (seat slot) 0 (now (t .entry)) (now (t .exit)) ⌝ }
 {
     let mut p = at; // the last one ends here
     let mut m = 0; // as many records were made
@@ -761,8 +762,8 @@ fn refusal(r: Ans) -> Tagged
 
 // An element or a fragment that is no child, and nothing behind it that n or 12 refuses.
 pub fn parse_jsx_element(t: &mut [u32], s: &[u8], at: usize, n: u32, d: usize, slot: Slot) -> Ans
-    requires { ⌜ Room 3 (now s) at slot × (at < length (now s)) ⌝ }
-    ensures { λ r. ⌜ Made r (now (s .entry)) (within d .element ⨾ noSibling n) at 1 slot 0
+    requires { ⌜ Room 3 (now s) at (seat slot) × (at < length (now s)) ⌝ }
+    ensures { λ r. ⌜ Made r (now (s .entry)) (within d .element ⨾ noSibling n) at 1 (seat slot) 0
         (now (t .entry)) (now (t .exit)) ⌝ }
 {
     lone(t, s, at, n, d, slot)
@@ -770,8 +771,8 @@ pub fn parse_jsx_element(t: &mut [u32], s: &[u8], at: usize, n: u32, d: usize, s
 
 // Children, as many as there are.
 pub fn parse_jsx_children(t: &mut [u32], s: &[u8], at: usize, d: usize, slot: Slot) -> Ans
-    requires { ⌜ Room 3 (now s) at slot ⌝ }
-    ensures { λ r. ⌜ Made r (now (s .entry)) (childrenRule (within d)) at 0 slot 0 (now (t .entry)) (now (t .exit)) ⌝ }
+    requires { ⌜ Room 3 (now s) at (seat slot) ⌝ }
+    ensures { λ r. ⌜ Made r (now (s .entry)) (childrenRule (within d)) at 0 (seat slot) 0 (now (t .entry)) (now (t .exit)) ⌝ }
 {
     children(t, s, at, d, slot)
 }

@@ -42,45 +42,46 @@ count-behind (group (node k x) c u) v = omega (arith, count-behind u v)
 count-behind (group (content d) c u) v = omega (arith, count-behind u v)
 
 -- A table has a row for each node.
-pub length-records : (u : Forest) (at n par : ℕ) → length (records at n par u) ≡ rowWords * count u
+pub length-records : (u : Forest) (at n par deep : ℕ) → length (records at n par deep u) ≡ rowWords * count u
 unfolding count records
-length-records nil at n par = refl
-length-records (byte b u) at n par = length-records u (at + 1) n par
-length-records (group (node k x) c u) at n par =
-    let h₁ = length-records c at (n + 1) n in
-    let h₂ = length-records u (at + width c) (n + (1 + count c)) par in
+length-records nil at n par deep = refl
+length-records (byte b u) at n par deep = length-records u (at + 1) n par deep
+length-records (group (node k x) c u) at n par deep =
+    let h₁ = length-records c at (n + 1) n (deep + 1) in
+    let h₂ = length-records u (at + width c) (n + (1 + count c)) par deep in
     simp length-append (omega arith)
-length-records (group (content d) c u) at n par =
-    let h₁ = length-records c at n par in
-    let h₂ = length-records u (at + width c) (n + count c) par in
+length-records (group (content d) c u) at n par deep =
+    let h₁ = length-records c at n par deep in
+    let h₂ = length-records u (at + width c) (n + count c) par deep in
     simp length-append (omega arith)
 
--- The same place, number and parent give the same table.
-pub records-same : (u : Forest) {at at′ n n′ par par′ : ℕ}
+-- The same place, number, parent and depth give the same table.
+pub records-same : (u : Forest) {at at′ n n′ par par′ deep deep′ : ℕ}
     → at ≡ at′
     → n ≡ n′
     → par ≡ par′
-    → records at n par u ≡ records at′ n′ par′ u
-records-same u p q r = λ i. records (p i) (q i) (r i) u
+    → deep ≡ deep′
+    → records at n par deep u ≡ records at′ n′ par′ deep′ u
+records-same u p q r d = λ i. records (p i) (q i) (r i) (d i) u
 
 -- The table of one forest behind the other is the one's table, then the other's, further on.
-pub records-join : (u v : Forest) (at n par : ℕ)
-    → records at n par (u ⋈ v) ≡ records at n par u ++ records (at + width u) (n + count u) par v
+pub records-join : (u v : Forest) (at n par deep : ℕ)
+    → records at n par deep (u ⋈ v) ≡ records at n par deep u ++ records (at + width u) (n + count u) par deep v
 unfolding count records width _⋈_
-records-join nil v at n par = records-same v (omega arith) (omega arith) refl
-records-join (byte b u) v at n par =
-    records-join u v (at + 1) n par
-    ∙ ap (λ (t : List ℕ). records (at + 1) n par u ++ t) (records-same v (omega arith) refl refl)
-records-join (group (node k x) c u) v at n par =
-    ap (λ (t : List ℕ). row k at (at + width c) par (n + (1 + count c)) x t)
-    (ap (λ (t : List ℕ). records at (n + 1) n c ++ t)
-    (records-join u v (at + width c) (n + (1 + count c)) par
-    ∙ ap (λ (t : List ℕ). records (at + width c) (n + (1 + count c)) par u ++ t)
-    (records-same v (omega arith) (omega arith) refl))
-    ∙ sym (append-assoc (records at (n + 1) n c) _ _))
-records-join (group (content d) c u) v at n par =
-    ap (λ (t : List ℕ). records at n par c ++ t)
-    (records-join u v (at + width c) (n + count c) par
-    ∙ ap (λ (t : List ℕ). records (at + width c) (n + count c) par u ++ t)
-    (records-same v (omega arith) (omega arith) refl))
-    ∙ sym (append-assoc (records at n par c) _ _)
+records-join nil v at n par deep = records-same v (omega arith) (omega arith) refl refl
+records-join (byte b u) v at n par deep =
+    records-join u v (at + 1) n par deep
+    ∙ ap (λ (t : List ℕ). records (at + 1) n par deep u ++ t) (records-same v (omega arith) refl refl refl)
+records-join (group (node k x) c u) v at n par deep =
+    ap (λ (t : List ℕ). row k at (at + width c) par (n + (1 + count c)) x deep t)
+    (ap (λ (t : List ℕ). records at (n + 1) n (deep + 1) c ++ t)
+    (records-join u v (at + width c) (n + (1 + count c)) par deep
+    ∙ ap (λ (t : List ℕ). records (at + width c) (n + (1 + count c)) par deep u ++ t)
+    (records-same v (omega arith) (omega arith) refl refl))
+    ∙ sym (append-assoc (records at (n + 1) n (deep + 1) c) _ _))
+records-join (group (content d) c u) v at n par deep =
+    ap (λ (t : List ℕ). records at n par deep c ++ t)
+    (records-join u v (at + width c) (n + count c) par deep
+    ∙ ap (λ (t : List ℕ). records (at + width c) (n + count c) par deep u ++ t)
+    (records-same v (omega arith) (omega arith) refl refl))
+    ∙ sym (append-assoc (records at n par deep c) _ _)

@@ -10,8 +10,7 @@ use Rattle.rules.specs.Parse.{pick}
 use Rattle.rules.specs.Record.{count}
 unfoldable pub use Rattle.rules.specs.Replaced.{insideOf}
 use Rattle.rules.proofs.Spots.{Spot, arrived, under, past, skip, fill, bytesBefore, no-spot-nil, count-fill}
-use Rattle.rules.proofs.Moved.{Foreign}
-use Rattle.rules.proofs.Edited.{recordsBefore, holder, Followed, count-fits, Edited, edited}
+use Rattle.rules.proofs.Edited.{recordsBefore, holder, holders, Followed, count-fits}
 
 -- The place of the node's first byte, in a forest whose first byte is at `at`.
 unfoldable pub placeOf : (at n j : ℕ) → Forest → ℕ
@@ -23,11 +22,22 @@ placeOf at n j (group (node k x) c u) =
 placeOf at n j (group (content d) c u) =
     pick (ltb j (n + count c)) (placeOf at n j c) (placeOf (at + width c) (n + count c) j u)
 
+-- How many ancestors the node has, in a forest that has so many.
+unfoldable pub depthOf : (n deep j : ℕ) → Forest → ℕ
+depthOf n deep j nil = deep
+depthOf n deep j (byte b u) = depthOf n deep j u
+depthOf n deep j (group (node k x) c u) =
+    pick (eqb j n) deep
+    (pick (ltb j (n + (1 + count c))) (depthOf (n + 1) (deep + 1) j c) (depthOf (n + (1 + count c)) deep j u))
+depthOf n deep j (group (content d) c u) =
+    pick (ltb j (n + count c)) (depthOf n deep j c) (depthOf (n + count c) deep j u)
+
 module _ {d : ℕ} {c₀ : Forest} where
   -- A spot of w, which is inside the node j of u, is a spot of u.
   pub record Held (u : Forest) (n par j : ℕ) {w : Forest} (ω : Spot d c₀ w) : Type 0 where
     pub spot : Spot d c₀ u
     pub parent : holder n par spot ≡ holder (j + 1) j ω
+    pub deeper : (deep : ℕ) → holders deep spot ≡ holders (depthOf n deep j u + 1) ω
     pub ahead : j < n + recordsBefore spot
     pub follows : Followed ω → Followed spot
     pub filled : (v : Forest) → insideOf n j (fill spot v) ≡ fill ω v
@@ -41,12 +51,13 @@ module _ {d : ℕ} {c₀ : Forest} where
 
   -- Every spot inside the node j has its place in u.
   pub held : (u : Forest) (n par j : ℕ) → n ≤ j → (ω : Spot d c₀ (insideOf n j u)) → Held u n par j ω
-  unfolding insideOf placeOf holder recordsBefore bytesBefore Followed fill count
+  unfolding insideOf placeOf depthOf holder holders recordsBefore bytesBefore Followed fill count
   held nil n par j l ω = absurd (no-spot-nil ω)
   held (byte b u) n par j l ω = let h = held u n par j l ω in
       record {
         spot = skip (h .spot);
         parent = h .parent;
+        deeper = h .deeper;
         ahead = h .ahead;
         follows = h .follows;
         filled = h .filled;
@@ -69,6 +80,7 @@ module _ {d : ℕ} {c₀ : Forest} where
             spot = under ω;
             parent = (λ i. holder (sym q i + 1) (sym q i)
                 ω);
+            deeper = λ deep. rw e;
             ahead = omega arith;
             follows = λ f. f;
             filled = λ v. rw e;
@@ -81,6 +93,7 @@ module _ {d : ℕ} {c₀ : Forest} where
           record {
             spot = under (h .spot);
             parent = h .parent;
+            deeper = λ deep. rw (e, e′) (h .deeper (deep + 1));
             ahead = omega arith;
             follows = h .follows;
             filled = λ v. let s = still-first (h .spot) v in
@@ -94,6 +107,7 @@ module _ {d : ℕ} {c₀ : Forest} where
           record {
             spot = past (h .spot);
             parent = h .parent;
+            deeper = λ deep. rw (e, e′) (h .deeper deep);
             ahead = omega arith;
             follows = h .follows;
             filled = λ v.
@@ -114,6 +128,7 @@ module _ {d : ℕ} {c₀ : Forest} where
           record {
             spot = under (h .spot);
             parent = h .parent;
+            deeper = λ deep. rw e (h .deeper deep);
             ahead = omega arith;
             follows = h .follows;
             filled = λ v. let s = still-first (h .spot) v in
@@ -127,6 +142,7 @@ module _ {d : ℕ} {c₀ : Forest} where
             spot = past
                 (h .spot);
             parent = h .parent;
+            deeper = λ deep. rw e (h .deeper deep);
             ahead = omega arith;
             follows = h .follows;
             filled = λ v. rw e (h .filled
@@ -157,6 +173,12 @@ module _ (d : ℕ) (c₀ : Forest) where
   holder-behind (group (node k x) c o) r n par = holder-behind o r (n + (1 + count c)) par
   holder-behind (group (content d′) c o) r n par = holder-behind o r (n + count c) par
 
+  holders-behind : (o r : Forest) (deep : ℕ) → holders deep (contentBehind o r) ≡ deep
+  unfolding _⋈_ contentBehind holders
+  holders-behind nil r deep = refl
+  holders-behind (byte b o) r deep = holders-behind o r deep
+  holders-behind (group l c o) r deep = holders-behind o r deep
+
   followed-behind : (o r : Forest) → 1 ≤ count r → Followed (contentBehind o r)
   unfolding _⋈_ contentBehind Followed
   followed-behind nil r h = h
@@ -181,6 +203,8 @@ module _ (d : ℕ) (c₀ : Forest) where
     pub spot : Spot d c₀ u
     -- its outermost records have that node for parent
     pub parent : holder n par spot ≡ j
+    -- and one ancestor more than it
+    pub deeper : (deep : ℕ) → holders deep spot ≡ depthOf n deep j u + 1
     -- a record in r follows it
     pub follows : 1 ≤ count r → Followed spot
     -- another content put there stands between o and r inside the node j
@@ -206,19 +230,9 @@ module _ (d : ℕ) (c₀ : Forest) where
           record {
             spot = h .spot;
             parent = h .parent ∙ holder-behind o r (j + 1) j;
+            deeper = λ deep. h .deeper deep ∙ holders-behind o r (depthOf n deep j u + 1);
             follows = λ k. h .follows (followed-behind o r k);
             filled = λ v. h .filled v ∙ fill-behind o r v;
             since = omega (arith, h .since, first-behind o r);
             begins = λ at. omega (arith, h .begins at, start-behind o r);
           }
-
-  -- So the content of the node j may be replaced, where a record of the node follows it.
-  pub replaced : (u : Forest) (at n par j : ℕ) (o r : Forest)
-      → n ≤ j
-      → insideOf n j u ≡ o ⋈ group (content d) c₀ r
-      → 1 ≤ count r
-      → Foreign par n (count u)
-      → (h : ContentOf u n par j o r) × Edited (h .spot) at n par
-  replaced u at n par j o r l e k f =
-      let h = content-of u n par j o r l e in
-      (h, edited (h .spot) (h .follows k) at n par f)

@@ -20,35 +20,35 @@ both false b e = let z : _≡_ {A = ℕ} 0 1 = cc in absurd (omega arith)
 
 last-ends : {s : List ℕ}
     → Table s
-    → (z k a e p n x : ℕ) → lastEnds z (s ++ row k a e p n x []) ≡ s ++ row k a z p n x []
+    → (z k a e p n x d : ℕ) → lastEnds z (s ++ row k a e p n x d []) ≡ s ++ row k a z p n x d []
 unfolding lastEnds
-last-ends none z k a e p n x = refl
-last-ends (more none) z k a e p n x = refl
-last-ends (more {k = k₁} {a = a₁} {z = e₁} {p = p₁} {n = n₁} {x = x₁} (more h)) z k a e p n x =
-    ap (λ (t : List ℕ). row k₁ a₁ e₁ p₁ n₁ x₁ t) (last-ends (more h) z k a e p n x)
+last-ends none z k a e p n x d = refl
+last-ends (more none) z k a e p n x d = refl
+last-ends (more {k = k₁} {a = a₁} {z = e₁} {p = p₁} {n = n₁} {x = x₁} {d = d₁} (more h)) z k a e p n x d =
+    ap (λ (t : List ℕ). row k₁ a₁ e₁ p₁ n₁ x₁ d₁ t) (last-ends (more h) z k a e p n x d)
 
 -- A forest without nodes has no rows.
-no-rows : (c : Forest) (at n par : ℕ) → count c ≡ 0 → records at n par c ≡ []
+no-rows : (c : Forest) (at n par deep : ℕ) → count c ≡ 0 → records at n par deep c ≡ []
 unfolding count records
-no-rows nil at n par h = refl
-no-rows (byte b u) at n par h = no-rows u (at + 1) n par h
-no-rows (group (node k x) c u) at n par h = absurd (omega arith)
-no-rows (group (content d) c u) at n par h =
-    λ i. no-rows c at n par (omega arith) i ++ no-rows u (at + width c) (n + count c) par (omega arith) i
+no-rows nil at n par deep h = refl
+no-rows (byte b u) at n par deep h = no-rows u (at + 1) n par deep h
+no-rows (group (node k x) c u) at n par deep h = absurd (omega arith)
+no-rows (group (content d) c u) at n par deep h =
+    λ i. no-rows c at n par deep (omega arith) i ++ no-rows u (at + width c) (n + count c) par deep (omega arith) i
 
 -- A node without nodes inside it has one row.
-one-row : (k x : ℕ) (c v : Forest) (at n par : ℕ)
+one-row : (k x : ℕ) (c v : Forest) (at n par deep : ℕ)
     → count c ≡ 0
-    → records at n par (group (node k x) c v)
-    ≡ row k at (at + width c) par (n + 1) x (records (at + width c) (n + 1) par v)
+    → records at n par deep (group (node k x) c v)
+    ≡ row k at (at + width c) par (n + 1) x deep (records (at + width c) (n + 1) par deep v)
 unfolding records
-one-row k x c v at n par h =
-    row-same k at par x refl (omega arith)
-    ((λ i. no-rows c at (n + 1) n h i ++ records (at + width c) (n + (1 + count c)) par v)
-    ∙ records-same v refl (omega arith) refl)
+one-row k x c v at n par deep h =
+    row-same k at par x deep refl (omega arith)
+    ((λ i. no-rows c at (n + 1) n (deep + 1) h i ++ records (at + width c) (n + (1 + count c)) par deep v)
+    ∙ records-same v refl (omega arith) refl refl)
 
 -- The rows of two texts that have become one: its row ends where the second text ended.
-module _ (w : Forest) (k x : ℕ) (c : Forest) (k′ x′ : ℕ) (c′ v : Forest) (at n par : ℕ) (h : count c ≡ 0)
+module _ (w : Forest) (k x : ℕ) (c : Forest) (k′ x′ : ℕ) (c′ v : Forest) (at n par deep : ℕ) (h : count c ≡ 0)
     (h′ : count c′ ≡ 0) where
   one : Forest
   one = w ⋈ group (node k x) c nil
@@ -64,21 +64,21 @@ module _ (w : Forest) (k x : ℕ) (c : Forest) (k′ x′ : ℕ) (c′ v : Fores
   unfolding one count
   count-one = omega (arith, count-behind w (group (node k x) c nil))
 
-  rows-front : records at n par one
-      ≡ records at n par w ++ row k (at + width w) (at + width one) par (n + count one) x []
+  rows-front : records at n par deep one
+      ≡ records at n par deep w ++ row k (at + width w) (at + width one) par (n + count one) x deep []
   unfolding one records
-  rows-front = records-join w (group (node k x) c nil) at n par
-      ∙ ap (λ (t : List ℕ). records at n par w ++ t)
-      (one-row k x c nil (at + width w) (n + count w) par h
-      ∙ row-same k (at + width w) par x (omega (arith, width-one)) (omega (arith, count-one)) refl)
+  rows-front = records-join w (group (node k x) c nil) at n par deep
+      ∙ ap (λ (t : List ℕ). records at n par deep w ++ t)
+      (one-row k x c nil (at + width w) (n + count w) par deep h
+      ∙ row-same k (at + width w) par x deep (omega (arith, width-one)) (omega (arith, count-one)) refl)
 
-  rows-merged : records at n par (w ⋈ group (node k x) (c ⋈ c′) v)
-      ≡ records at n par w ++ row k (at + width w) (width one + (at + width c′)) par (n + count one) x
-      (records (width one + (at + width c′)) (n + count one) par v)
-  rows-merged = records-join w (group (node k x) (c ⋈ c′) v) at n par
-      ∙ ap (λ (t : List ℕ). records at n par w ++ t)
-      (one-row k x (c ⋈ c′) v (at + width w) (n + count w) par (omega (arith, count-behind c c′))
-      ∙ row-same k (at + width w) par x z m (records-same v z m refl))
+  rows-merged : records at n par deep (w ⋈ group (node k x) (c ⋈ c′) v)
+      ≡ records at n par deep w ++ row k (at + width w) (width one + (at + width c′)) par (n + count one) x deep
+      (records (width one + (at + width c′)) (n + count one) par deep v)
+  rows-merged = records-join w (group (node k x) (c ⋈ c′) v) at n par deep
+      ∙ ap (λ (t : List ℕ). records at n par deep w ++ t)
+      (one-row k x (c ⋈ c′) v (at + width w) (n + count w) par deep (omega (arith, count-behind c c′))
+      ∙ row-same k (at + width w) par x deep z m (records-same v z m refl refl))
     where
       z : at + width w + width (c ⋈ c′) ≡ width one + (at + width c′)
       z = omega (arith, width-one, width-behind c c′)
@@ -86,27 +86,27 @@ module _ (w : Forest) (k x : ℕ) (c : Forest) (k′ x′ : ℕ) (c′ v : Fores
       m : n + count w + 1 ≡ n + count one
       m = omega (arith, count-one)
 
-  merged : Foreign par n (count other) → records at n par (w ⋈ group (node k x) (c ⋈ c′) v)
-      ≡ lastEnds (width one + firstEnd (records at n par other)) (records at n par one)
-      ++ moved (width one) (count one - 1) par par (drop rowWords (records at n par other))
+  merged : Foreign par n (count other) → records at n par deep (w ⋈ group (node k x) (c ⋈ c′) v)
+      ≡ lastEnds (width one + firstEnd (records at n par deep other)) (records at n par deep one)
+      ++ moved (width one) (count one - 1) 0 par par (drop rowWords (records at n par deep other))
   unfolding other count firstEnd
   merged o = rows-merged
       ∙ sym ((λ i. lastEnds (width one + firstEnd (rows-back i)) (rows-front i)
-      ++ moved (width one) (count one - 1) par par (drop rowWords (rows-back i)))
-      ∙ (λ i. last-ends (table-records w at n par) (width one + (at + width c′)) k (at + width w) (at + width one) par
-      (n + count one) x i ++ rest i)
-      ∙ append-assoc (records at n par w) _ _)
+      ++ moved (width one) (count one - 1) 0 par par (drop rowWords (rows-back i)))
+      ∙ (λ i. last-ends (table-records w at n par deep) (width one + (at + width c′)) k (at + width w) (at + width one) par
+      (n + count one) x deep i ++ rest i)
+      ∙ append-assoc (records at n par deep w) _ _)
     where
-      rows-back : records at n par other
-          ≡ row k′ at (at + width c′) par (n + 1) x′ (records (at + width c′) (n + 1) par v)
-      rows-back = one-row k′ x′ c′ v at n par h′
+      rows-back : records at n par deep other
+          ≡ row k′ at (at + width c′) par (n + 1) x′ deep (records (at + width c′) (n + 1) par deep v)
+      rows-back = one-row k′ x′ c′ v at n par deep h′
 
-      rest : moved (width one) (count one - 1) par par (records (at + width c′) (n + 1) par v)
-          ≡ records (width one + (at + width c′)) (n + count one) par v
+      rest : moved (width one) (count one - 1) 0 par par (records (at + width c′) (n + 1) par deep v)
+          ≡ records (width one + (at + width c′)) (n + count one) par deep v
       rest =
-          sym (records-moved (width one) (count one - 1) par par v (at + width c′) (n + 1)
+          sym (records-moved (width one) (count one - 1) 0 par par v (at + width c′) (n + 1) deep
           (λ q l r. o q (omega arith) (omega arith)))
-          ∙ records-same v refl (omega (arith, count-one)) refl
+          ∙ records-same v refl (omega (arith, count-one)) refl (omega arith)
 
 module _ (isText : Label → Bool) where
   -- Nothing joined behind a forest is that forest.
@@ -290,15 +290,15 @@ module _ (isText : Label → Bool) where
   count-apart u v e = ap count (join-apart u v e) ∙ count-behind u v
 
   -- Where no text meets a text: the rows of the one, then those of the other, moved behind the one.
-  pub records-apart : (u v : Forest) (at n par : ℕ)
+  pub records-apart : (u v : Forest) (at n par deep : ℕ)
       → meets isText u v ≡ false
       → Foreign par n (count v)
-      → records at n par (join isText u v)
-      ≡ records at n par u ++ moved (width u) (count u) par par (records at n par v)
-  records-apart u v at n par e o =
-      ap (records at n par) (join-apart u v e) ∙ records-join u v at n par
-      ∙ ap (λ (t : List ℕ). records at n par u ++ t)
-      (records-same v (omega arith) (omega arith) refl ∙ records-moved (width u) (count u) par par v at n o)
+      → records at n par deep (join isText u v)
+      ≡ records at n par deep u ++ moved (width u) (count u) 0 par par (records at n par deep v)
+  records-apart u v at n par deep e o =
+      ap (records at n par deep) (join-apart u v e) ∙ records-join u v at n par deep
+      ∙ ap (λ (t : List ℕ). records at n par deep u ++ t)
+      (records-same v (omega arith) (omega arith) refl (omega arith) ∙ records-moved (width u) (count u) 0 par par v at n deep o)
 
   -- The texts of a forest that stand in none of its groups have no nodes inside them.
   unfoldable pub Bare : Forest → Type 0
@@ -339,19 +339,20 @@ module _ (isText : Label → Bool) where
       count-text (h .label′) (h .text′) (h .later) (h .isOther),
     )
 
-    rows-met : {u v : Forest} (h : Met u v) (at n par : ℕ)
+    rows-met : {u v : Forest} (h : Met u v) (at n par deep : ℕ)
         → count (h .text) ≡ 0
         → count (h .text′) ≡ 0
         → Foreign par n (count v)
-        → records at n par (join isText u v) ≡ lastEnds (width u + firstEnd (records at n par v)) (records at n par u)
-        ++ moved (width u) (count u - 1) par par (drop rowWords (records at n par v))
+        → records at n par deep (join isText u v)
+        ≡ lastEnds (width u + firstEnd (records at n par deep v)) (records at n par deep u)
+        ++ moved (width u) (count u - 1) 0 par par (drop rowWords (records at n par deep v))
     unfolding one other
-    rows-met {u} {v} h at n par z z′ o = go (text-node (h .label) (h .isOne)) (text-node (h .label′) (h .isOther))
+    rows-met {u} {v} h at n par deep z z′ o = go (text-node (h .label) (h .isOne)) (text-node (h .label′) (h .isOther))
       where
         Goal : Forest → Forest → Type 0
         Goal u′ v′ =
-            records at n par (join isText u v) ≡ lastEnds (width u′ + firstEnd (records at n par v′)) (records at n par
-            u′) ++ moved (width u′) (count u′ - 1) par par (drop rowWords (records at n par v′))
+            records at n par deep (join isText u v)
+            ≡ lastEnds (width u′ + firstEnd (records at n par deep v′)) (records at n par deep u′) ++ moved (width u′) (count u′ - 1) 0 par par (drop rowWords (records at n par deep v′))
 
         go : (k : ℕ) × (x : ℕ) × (h .label ≡ node k x) → (k′ : ℕ) × (x′ : ℕ) × (h .label′ ≡ node k′ x′) → Goal u v
         go (k, x, e) (k′, x′, e′) =
@@ -361,21 +362,22 @@ module _ (isText : Label → Bool) where
             ≡ v = sym (h .right ∙ ap (λ (l : Label). group l (h .text′) (h .later)) e′) in
             subst (λ (w : Forest). Goal u w) right
             (subst (λ (w : Forest). Goal w (group (node k′ x′) (h .text′) (h .later))) left
-            (ap (records at n par)
+            (ap (records at n par deep)
             (h .joined ∙ ap (λ (l : Label). h .before ⋈ group l (h .text ⋈ h .text′) (h .later)) e)
-            ∙ merged (h .before) k x (h .text) k′ x′ (h .text′) (h .later) at n par z z′
+            ∙ merged (h .before) k x (h .text) k′ x′ (h .text′) (h .later) at n par deep z z′
             (subst (λ (w : Forest). Foreign par n (count w)) (sym right) o)))
 
     -- Where a text meets a text, with no nodes inside them: the rows of the one, the last with the end of the other's
     -- first; then the other's but its first, moved behind.
-    pub records-met : (u v : Forest) (at n par : ℕ)
+    pub records-met : (u v : Forest) (at n par deep : ℕ)
         → meets isText u v ≡ true
         → Bare u
         → Bare v
         → Foreign par n (count v)
-        → records at n par (join isText u v) ≡ lastEnds (width u + firstEnd (records at n par v)) (records at n par u)
-        ++ moved (width u) (count u - 1) par par (drop rowWords (records at n par v))
+        → records at n par deep (join isText u v)
+        ≡ lastEnds (width u + firstEnd (records at n par deep v)) (records at n par deep u)
+        ++ moved (width u) (count u - 1) 0 par par (drop rowWords (records at n par deep v))
     unfolding Bare
-    records-met u v at n par e bu bv o = let h = join-met u v e in
-        rows-met h at n par (bare-last (h .before) (h .label) (h .text) nil (subst Bare (h .left) bu) (h .isOne))
+    records-met u v at n par deep e bu bv o = let h = join-met u v e in
+        rows-met h at n par deep (bare-last (h .before) (h .label) (h .text) nil (subst Bare (h .left) bu) (h .isOne))
         (subst Bare (h .right) bv .0 (h .isOther)) o

@@ -16,7 +16,7 @@ use Rattle.rules.proofs.Forests.{length-records, count-behind}
 use Rattle.rules.proofs.Formed.{Formed}
 use Rattle.rules.proofs.Spots.{Spot, arrived, under, past, skip, fill, bytesBefore, fill-same}
 use Rattle.rules.proofs.Edited.{recordsBefore, holder, Followed, count-fits}
-use Rattle.rules.proofs.Held.{insideOf, placeOf, ContentOf, content-of}
+use Rattle.rules.proofs.Held.{insideOf, placeOf, depthOf, ContentOf, content-of}
 
 -- The label of the node with the number j, in a forest whose first record is n.
 unfoldable pub labelOf : (n j : ℕ) → Forest → Label
@@ -247,18 +247,18 @@ inside-fits u n j l h = way-bounds (found u 0 n j l h) .1
 -- ---- the row of a node
 
 -- A table that has the row of the node with the number j, its first row being number n.
-record Cut (n j : ℕ) (l : Label) (t : Forest) (q parent : ℕ) (s : List ℕ) : Type 0 where
+record Cut (n j : ℕ) (l : Label) (t : Forest) (q parent depth : ℕ) (s : List ℕ) : Type 0 where
   before : List ℕ
   rest : List ℕ
   kind : ℕ
   extra : ℕ
   label : l ≡ node kind extra
   size : rowWords * n + length before ≡ rowWords * j
-  split : s ≡ before ++ row kind q (q + width t) parent (j + (1 + count t)) extra rest
+  split : s ≡ before ++ row kind q (q + width t) parent (j + (1 + count t)) extra depth rest
 
 module _ {j : ℕ} {l : Label} {t : Forest} {q : ℕ} where
   -- Rows behind it change nothing.
-  cut-more : {n p : ℕ} {s : List ℕ} → Cut n j l t q p s → (b : List ℕ) → Cut n j l t q p (s ++ b)
+  cut-more : {n p y : ℕ} {s : List ℕ} → Cut n j l t q p y s → (b : List ℕ) → Cut n j l t q p y (s ++ b)
   cut-more h b = record {
     before = h .before;
     rest = h .rest ++ b;
@@ -270,8 +270,9 @@ module _ {j : ℕ} {l : Label} {t : Forest} {q : ℕ} where
   }
 
   -- Rows before it have the numbers before.
-  cut-further : {n n′ p : ℕ} {s : List ℕ} → Cut n′ j l t q p s → (a : List ℕ) → rowWords * n + length a ≡ rowWords * n′
-      → Cut n j l t q p (a ++ s)
+  cut-further : {n n′ p y : ℕ} {s : List ℕ} → Cut n′ j l t q p y s
+      → (a : List ℕ) → rowWords * n + length a ≡ rowWords * n′
+      → Cut n j l t q p y (a ++ s)
   cut-further h a e = record {
     before = a ++ h .before;
     rest = h .rest;
@@ -282,78 +283,79 @@ module _ {j : ℕ} {l : Label} {t : Forest} {q : ℕ} where
     split = (λ i. a ++ h .split i) ∙ sym (append-assoc a (h .before) _);
   }
 
-  -- The same row, its parent said otherwise.
-  said-under : {n p p′ : ℕ} {s : List ℕ} → Cut n j l t q p s → p′ ≡ p → Cut n j l t q p′ s
-  said-under {n} {s = s} h e = subst (λ (p : ℕ). Cut n j l t q p s) (sym e) h
+  -- The same row, its parent and its depth said otherwise.
+  said-under : {n p p′ y y′ : ℕ} {s : List ℕ} → Cut n j l t q p y s → p′ ≡ p → y′ ≡ y → Cut n j l t q p′ y′ s
+  said-under {n} {s = s} h e f = subst₂ (λ (p y : ℕ). Cut n j l t q p y s) (sym e) (sym f) h
 
   -- The table of a forest has the row of the node that a way leads to.
   way-cut : {at n : ℕ} {u : Forest}
       → Way j l t q at n u
-      → (par : ℕ)
-      → Cut n j l t q (parentOf n par j u) (records at n par u)
-  unfolding records parentOf
-  way-cut (self {at} {n} {k} {x} {c} {v} e p s a) par =
-      let f : parentOf n par j (group (node k x) c v) ≡ par = rw (eq-eqb j n e) refl in
+      → (par deep : ℕ)
+      → Cut n j l t q (parentOf n par j u) (depthOf n deep j u) (records at n par deep u)
+  unfolding records parentOf depthOf
+  way-cut (self {at} {n} {k} {x} {c} {v} e p s a) par deep =
+      let b = eq-eqb j n e in
       said-under (record {
         before = [];
-        rest = records at (n + 1) n c ++ records (at + width c) (n + (1 + count c)) par v;
+        rest = records at (n + 1) n (deep + 1) c ++ records (at + width c) (n + (1 + count c)) par deep v;
         kind = k;
         extra = x;
         label = p;
         size = omega arith;
-        split = λ i. row k (sym a i) (sym a i + width (sym s i)) par (sym e i + (1 + count (sym s i))) x
-            (records at (n + 1) n c ++ records (at + width c) (n + (1 + count c)) par v);
-      }) f
-  way-cut (inNode {at} {n} {k} {x} {c} {v} w) par =
+        split = λ i. row k (sym a i) (sym a i + width (sym s i)) par (sym e i + (1 + count (sym s i))) x deep
+            (records at (n + 1) n (deep + 1) c ++ records (at + width c) (n + (1 + count c)) par deep v);
+      }) (rw b) (rw b)
+  way-cut (inNode {at} {n} {k} {x} {c} {v} w) par deep =
       let h = way-bounds w in
-      let f : parentOf n par j (group (node k x) c v) ≡ parentOf (n + 1) n j c =
-      rw (ne-eqb j n (omega arith), lt-ltb j (n + (1 + count c)) (omega arith)) refl in
+      let b = ne-eqb j n (omega arith) in
+      let b′ = lt-ltb j (n + (1 + count c)) (omega arith) in
       said-under
-      (cut-further (cut-more (way-cut w n) (records (at + width c) (n + (1 + count c)) par v))
-      (row k at (at + width c) par (n + (1 + count c)) x []) (omega arith)) f
-  way-cut (pastNode {at} {n} {k} {x} {c} {v} w) par =
+      (cut-further (cut-more (way-cut w n (deep + 1)) (records (at + width c) (n + (1 + count c)) par deep v))
+      (row k at (at + width c) par (n + (1 + count c)) x deep []) (omega arith)) (rw (b, b′)) (rw (b, b′))
+  way-cut (pastNode {at} {n} {k} {x} {c} {v} w) par deep =
       let h = way-bounds w in
-      let z = length-records c at (n + 1) n in
-      let f : parentOf n par j (group (node k x) c v) ≡ parentOf (n + (1 + count c)) par j v =
-      rw (ne-eqb j n (omega arith), le-ltb j (n + (1 + count c)) (omega arith)) refl in
+      let z = length-records c at (n + 1) n (deep + 1) in
+      let b = ne-eqb j n (omega arith) in
+      let b′ = le-ltb j (n + (1 + count c)) (omega arith) in
       said-under
-      (cut-further (way-cut w par) (row k at (at + width c) par (n + (1 + count c)) x (records at (n + 1) n c))
-      (omega arith)) f
-  way-cut (inContent {at} {n} {d} {c} {v} w) par =
+      (cut-further (way-cut w par deep)
+      (row k at (at + width c) par (n + (1 + count c)) x deep (records at (n + 1) n (deep + 1) c))
+      (omega arith)) (rw (b, b′)) (rw (b, b′))
+  way-cut (inContent {at} {n} {d} {c} {v} w) par deep =
       let h = way-bounds w in
-      let f : parentOf n par j (group (content d) c v) ≡ parentOf n par j c = rw (lt-ltb j (n + count c) (omega arith)) refl in
-      said-under (cut-more (way-cut w par) (records (at + width c) (n + count c) par v)) f
-  way-cut (pastContent {at} {n} {d} {c} {v} w) par =
+      let b = lt-ltb j (n + count c) (omega arith) in
+      said-under (cut-more (way-cut w par deep) (records (at + width c) (n + count c) par deep v)) (rw b) (rw b)
+  way-cut (pastContent {at} {n} {d} {c} {v} w) par deep =
       let h = way-bounds w in
-      let z = length-records c at n par in
-      let f : parentOf n par j (group (content d) c v) ≡ parentOf (n + count c) par j v =
-      rw (le-ltb j (n + count c) (omega arith)) refl in
-      said-under (cut-further (way-cut w par) (records at n par c) (omega arith)) f
-  way-cut (pastByte w) par = way-cut w par
+      let z = length-records c at n par deep in
+      let b = le-ltb j (n + count c) (omega arith) in
+      said-under (cut-further (way-cut w par deep) (records at n par deep c) (omega arith)) (rw b) (rw b)
+  way-cut (pastByte w) par deep = way-cut w par deep
 
 -- Past one list a list begins anew.
 getD-past : (p s : List ℕ) {m : ℕ} (i : ℕ) → length p ≡ m → getD (p ++ s) (m + i) 0 ≡ getD s i 0
 getD-past p s i e = rw (← e) (getD-append-add p s i 0)
 
 -- The row number m of the table of u, whose record has the number j: the node's kind, place, end, parent, the first
--- number past its records, and its extra word.
-pub record RowOf (u : Forest) (at n par m j : ℕ) : Type 0 where
+-- number past its records, its extra word, and how many ancestors it has.
+pub record RowOf (u : Forest) (at n par deep m j : ℕ) : Type 0 where
   pub kind : ℕ
   pub extra : ℕ
   pub label : labelOf n j u ≡ node kind extra
-  pub whole : take rowWords (drop (rowWords * m) (records at n par u))
+  pub whole : take rowWords (drop (rowWords * m) (records at n par deep u))
       ≡ row kind (placeOf at n j u) (placeOf at n j u + width (insideOf n j u)) (parentOf n par j u)
-      (j + (1 + count (insideOf n j u))) extra []
-  pub kind-word : getD (records at n par u) (rowWords * m) 0 ≡ kind
-  pub start-word : getD (records at n par u) (rowWords * m + 1) 0 ≡ placeOf at n j u
-  pub end-word : getD (records at n par u) (rowWords * m + 2) 0 ≡ placeOf at n j u + width (insideOf n j u)
-  pub parent-word : getD (records at n par u) (rowWords * m + 3) 0 ≡ parentOf n par j u
-  pub after-word : getD (records at n par u) (rowWords * m + 4) 0 ≡ j + (1 + count (insideOf n j u))
-  pub extra-word : getD (records at n par u) (rowWords * m + 5) 0 ≡ extra
+      (j + (1 + count (insideOf n j u))) extra (depthOf n deep j u) []
+  pub kind-word : getD (records at n par deep u) (rowWords * m) 0 ≡ kind
+  pub start-word : getD (records at n par deep u) (rowWords * m + 1) 0 ≡ placeOf at n j u
+  pub end-word : getD (records at n par deep u) (rowWords * m + 2) 0 ≡ placeOf at n j u + width (insideOf n j u)
+  pub parent-word : getD (records at n par deep u) (rowWords * m + 3) 0 ≡ parentOf n par j u
+  pub after-word : getD (records at n par deep u) (rowWords * m + 4) 0 ≡ j + (1 + count (insideOf n j u))
+  pub extra-word : getD (records at n par deep u) (rowWords * m + 5) 0 ≡ extra
+  pub depth-word : getD (records at n par deep u) (rowWords * m + 6) 0 ≡ depthOf n deep j u
 
 -- Every row is such a row.
-pub row-of : (u : Forest) (at n par m j : ℕ) → j ≡ n + m → m < count u → RowOf u at n par m j
-row-of u at n par m j e h = record {
+pub row-of : (u : Forest) (at n par deep m j : ℕ) → j ≡ n + m → m < count u → RowOf u at n par deep m j
+row-of u at n par deep m j e h = record {
   kind = c .kind;
   extra = c .extra;
   label = c .label;
@@ -366,18 +368,20 @@ row-of u at n par m j e h = record {
   parent-word = word 3;
   after-word = word 4;
   extra-word = word 5;
+  depth-word = word 6;
 }
   where
-    c : Cut n j (labelOf n j u) (insideOf n j u) (placeOf at n j u) (parentOf n par j u) (records at n par u)
-    c = way-cut (found u at n j (omega arith) (omega arith)) par
+    c : Cut n j (labelOf n j u) (insideOf n j u) (placeOf at n j u) (parentOf n par j u) (depthOf n deep j u)
+        (records at n par deep u)
+    c = way-cut (found u at n j (omega arith) (omega arith)) par deep
 
     long : length (c .before) ≡ rowWords * m
     long = omega (arith, c .size)
 
-    word : (i : ℕ) → getD (records at n par u) (rowWords * m + i) 0
+    word : (i : ℕ) → getD (records at n par deep u) (rowWords * m + i) 0
         ≡ getD
         (row (c .kind) (placeOf at n j u) (placeOf at n j u + width (insideOf n j u)) (parentOf n par j u)
-        (j + (1 + count (insideOf n j u))) (c .extra) (c .rest))
+        (j + (1 + count (insideOf n j u))) (c .extra) (depthOf n deep j u) (c .rest))
         i 0
     word i = ap (λ (s : List ℕ). getD s (rowWords * m + i) 0) (c .split) ∙ getD-past (c .before) _ i long
 
@@ -460,231 +464,3 @@ pub content-known : (d : ℕ) (c₀ u : Forest) (n j : ℕ) (o r : Forest)
     → j + 1 + count o + count c₀ ≤ n + count u
 content-known d c₀ u n j o r l e =
     let h = content-of d c₀ u n 0 j o r l e in omega (arith, h .since, count-fits (h .spot))
-
--- ---- the node that a spot stands in
-
--- No content stands in it but in its nodes.
-abbrev pub Bare : Forest → Type 0
-Bare nil = Unit {0}
-Bare (byte b u) = Bare u
-Bare (group (node k x) c u) = Bare u
-Bare (group (content d) c u) = ⊥
-
--- No content stands in a content but in its nodes.
-abbrev pub BareContents : Forest → Type 0
-BareContents nil = Unit {0}
-BareContents (byte b u) = BareContents u
-BareContents (group (node k x) c u) = BareContents c × BareContents u
-BareContents (group (content d) c u) = Bare c × BareContents c × BareContents u
-
-module _ {d : ℕ} {c₀ : Forest} where
-  -- The content stands in no group of the forest.
-  unfoldable pub Outermost : {u : Forest} → Spot d c₀ u → Type 0
-  Outermost (arrived p q) = Unit {0}
-  Outermost (under ω) = ⊥
-  Outermost (past ω) = Outermost ω
-  Outermost (skip ω) = Outermost ω
-
-  -- The content stands in a node, and in no other group inside that node.
-  unfoldable pub InNode : {u : Forest} → Spot d c₀ u → Type 0
-  InNode (arrived p q) = ⊥
-  InNode (under {l = node k x} ω) = Outermost ω ⊎ InNode ω
-  InNode (under {l = content d′} ω) = InNode ω
-  InNode (past ω) = InNode ω
-  InNode (skip ω) = InNode ω
-
-  -- In a bare forest no content is outermost.
-  bare-not-outermost : {u : Forest} (ω : Spot d c₀ u) → Bare u → Outermost ω → ⊥
-  unfolding Outermost
-  bare-not-outermost (arrived {l = node k x} p q) b s = let z : _≡_ {A = ℕ} 0 1 = cc in omega arith
-  bare-not-outermost (arrived {l = content d′} p q) b s = b
-  bare-not-outermost (under ω) b s = s
-  bare-not-outermost (past {l = node k x} ω) b s = bare-not-outermost ω b s
-  bare-not-outermost (past {l = content d′} ω) b s = b
-  bare-not-outermost (skip ω) b s = bare-not-outermost ω b s
-
-  -- So there it is in a node, if it is one or the other.
-  bare-in-node : {u : Forest} (ω : Spot d c₀ u) → Bare u → Outermost ω ⊎ InNode ω → InNode ω
-  bare-in-node ω b (inl s) = absurd (bare-not-outermost ω b s)
-  bare-in-node ω b (inr s) = s
-
-  -- Where contents are bare, it is one or the other.
-  outermost-or-in-node : {u : Forest} (ω : Spot d c₀ u) → BareContents u → Outermost ω ⊎ InNode ω
-  unfolding Outermost InNode
-  outermost-or-in-node (arrived p q) b = inl tt
-  outermost-or-in-node (under {l = node k x} ω) b = inr (outermost-or-in-node ω (b .0))
-  outermost-or-in-node (under {l = content d′} ω) b = inr (bare-in-node ω (b .0) (outermost-or-in-node ω (b .1)))
-  outermost-or-in-node (past {l = node k x} ω) b = outermost-or-in-node ω (b .1)
-  outermost-or-in-node (past {l = content d′} ω) b = outermost-or-in-node ω (b .2)
-  outermost-or-in-node (skip ω) b = outermost-or-in-node ω b
-
-  -- Where contents stand in nodes only, every spot is in a node.
-  pub in-node : {u : Forest} (ω : Spot d c₀ u) → Bare u → BareContents u → InNode ω
-  in-node ω e b = bare-in-node ω e (outermost-or-in-node ω b)
-
-  -- What stands before such a content, and what behind it.
-  record Between {u : Forest} (ω : Spot d c₀ u) : Type 0 where
-    o : Forest
-    r : Forest
-    filled : (v : Forest) → fill ω v ≡ o ⋈ group (content d) v r
-    parent : (n par : ℕ) → holder n par ω ≡ par
-    follows : 1 ≤ count r → Followed ω
-    since : recordsBefore ω ≡ count o
-    begins : bytesBefore ω ≡ width o
-
-  -- An outermost content stands between two forests.
-  between : {u : Forest} (ω : Spot d c₀ u) → Outermost ω → Between ω
-  unfolding Outermost fill holder Followed recordsBefore bytesBefore count width _⋈_
-  between (arrived {v = v} p q) s =
-      record {
-        o = nil;
-        r = v;
-        filled = λ w. ap (λ (l : Label). group l w
-            v) p;
-        parent = λ n par. refl;
-        follows = λ h. h;
-        since = refl;
-        begins = refl;
-      }
-  between (under ω) s = absurd s
-  between (past {l = node k x} {c = c} ω) s = let h = between ω s in record {
-    o = group (node k x) c (h .o);
-    r = h .r;
-    filled = λ v. ap (group (node k x) c) (h .filled v);
-    parent = λ n par. h .parent (n + (1 + count c)) par;
-    follows = h .follows;
-    since = omega (arith, h .since);
-    begins = omega (arith, h .begins);
-  }
-  between (past {l = content d′} {c = c} ω) s = let h = between ω s in record {
-    o = group (content d′) c (h .o);
-    r = h .r;
-    filled = λ v. ap (group (content d′) c) (h .filled v);
-    parent = λ n par. h .parent (n + count c) par;
-    follows = h .follows;
-    since = omega (arith, h .since);
-    begins = omega (arith, h .begins);
-  }
-  between (skip {b = b} ω) s = let h = between ω s in record {
-    o = byte b (h .o);
-    r = h .r;
-    filled = λ v. ap (byte b) (h .filled v);
-    parent = h .parent;
-    follows = h .follows;
-    since = h .since;
-    begins = omega (arith, h .begins);
-  }
-
-  -- A content is in the node whose number is its holder, between o and r, whatever content is put there.
-  record StandsIn {u : Forest} (ω : Spot d c₀ u) (n par : ℕ) : Type 0 where
-    o : Forest
-    r : Forest
-    label : Label
-    place : ℕ → ℕ
-    way : (at : ℕ) (v : Forest) → Way (holder n par ω) label (o ⋈ group (content d) v r) (place at) at n (fill ω v)
-    follows : 1 ≤ count r → Followed ω
-    since : n + recordsBefore ω ≡ holder n par ω + 1 + count o
-    begins : (at : ℕ) → at + bytesBefore ω ≡ place at + width o
-
-  -- So it is for every content in a node.
-  stands-in : {u : Forest} (ω : Spot d c₀ u) (n par : ℕ) → InNode ω → StandsIn ω n par
-  unfolding InNode fill holder Followed recordsBefore bytesBefore
-  stands-in (arrived p q) n par s = absurd s
-  stands-in (under {l = node k x} {v = v} ω) n par s = go s (stands-in ω (n + 1) n)
-    where
-      go : Outermost ω ⊎ InNode ω → (InNode ω → StandsIn ω (n + 1) n) → StandsIn (under {l = node k x} {v = v} ω) n par
-      go (inl t) ih = let h = between ω t in let e = h .parent (n + 1) n in record {
-        o = h .o;
-        r = h .r;
-        label = node k x;
-        place = λ at. at;
-        way = λ at w. self e refl (sym (h .filled w)) refl;
-        follows = h .follows;
-        since = omega (arith, h .since);
-        begins = λ at. omega (arith, h .begins);
-      }
-      go (inr t) ih = let h = ih t in record {
-        o = h .o;
-        r = h .r;
-        label = h .label;
-        place = h .place;
-        way = λ at w. inNode (h .way at w);
-        follows = h .follows;
-        since = omega (arith, h .since);
-        begins = h .begins;
-      }
-  stands-in (under {l = content d′} ω) n par s = let h = stands-in ω n par s in record {
-    o = h .o;
-    r = h .r;
-    label = h .label;
-    place = h .place;
-    way = λ at w. inContent (h .way at w);
-    follows = h .follows;
-    since = h .since;
-    begins = h .begins;
-  }
-  stands-in (past {l = node k x} {c = c} ω) n par s = let h = stands-in ω (n + (1 + count c)) par s in record {
-    o = h .o;
-    r = h .r;
-    label = h .label;
-    place = λ at. h .place (at + width c);
-    way = λ at w. pastNode (h .way (at + width c) w);
-    follows = h .follows;
-    since = omega (arith, h .since);
-    begins = λ at. omega (arith, h .begins (at + width c));
-  }
-  stands-in (past {l = content d′} {c = c} ω) n par s = let h = stands-in ω (n + count c) par s in record {
-    o = h .o;
-    r = h .r;
-    label = h .label;
-    place = λ at. h .place (at + width c);
-    way = λ at w. pastContent (h .way (at + width c) w);
-    follows = h .follows;
-    since = omega (arith, h .since);
-    begins = λ at. omega (arith, h .begins (at + width c));
-  }
-  stands-in (skip ω) n par s = let h = stands-in ω n par s in record {
-    o = h .o;
-    r = h .r;
-    label = h .label;
-    place = λ at. h .place (at + 1);
-    way = λ at w. pastByte (h .way (at + 1) w);
-    follows = h .follows;
-    since = h .since;
-    begins = λ at. omega (arith, h .begins (at + 1));
-  }
-
-  -- A spot in a node is the content of that node, whose number is the spot's holder.
-  pub record SpotOf {u : Forest} (ω : Spot d c₀ u) (n par : ℕ) : Type 0 where
-    pub o : Forest
-    pub r : Forest
-    pub from : n ≤ holder n par ω
-    pub known : holder n par ω < n + count u
-    pub inner : insideOf n (holder n par ω) u ≡ o ⋈ group (content d) c₀ r
-    pub isContent : ContentOf d c₀ u n par (holder n par ω) o r
-    pub same : isContent .spot ≡ ω
-
-  -- Every spot in a node is so.
-  pub spot-of : {u : Forest} (ω : Spot d c₀ u) (n par : ℕ) → InNode ω → SpotOf ω n par
-  spot-of {u} ω n par s = record {
-    o = h .o;
-    r = h .r;
-    from = way-bounds (there 0) .0;
-    known = let b = way-bounds (there 0) in omega arith;
-    inner = way-is (there 0) .1;
-    isContent = record {
-      spot = ω;
-      parent = refl;
-      follows = h .follows;
-      filled = λ v. way-is (h .way 0 v) .1;
-      since = h .since;
-      begins = λ at. h .begins at ∙ ap (λ (q : ℕ). q + width (h .o)) (sym (way-is (there at) .2));
-    };
-    same = refl;
-  }
-    where
-      h : StandsIn ω n par
-      h = stands-in ω n par s
-
-      there : (at : ℕ) → Way (holder n par ω) (h .label) (h .o ⋈ group (content d) c₀ (h .r)) (h .place at) at n u
-      there at = rw (fill-same ω) at (h .way at c₀)

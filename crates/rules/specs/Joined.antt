@@ -47,8 +47,9 @@ lastEnds z (k ∷ a ∷ []) = k ∷ a ∷ []
 lastEnds z (k ∷ a ∷ e ∷ []) = k ∷ a ∷ e ∷ []
 lastEnds z (k ∷ a ∷ e ∷ p ∷ []) = k ∷ a ∷ e ∷ p ∷ []
 lastEnds z (k ∷ a ∷ e ∷ p ∷ n ∷ []) = k ∷ a ∷ e ∷ p ∷ n ∷ []
-lastEnds z (k ∷ a ∷ e ∷ p ∷ n ∷ x ∷ []) = row k a z p n x []
-lastEnds z (k ∷ a ∷ e ∷ p ∷ n ∷ x ∷ y ∷ rest) = row k a e p n x (lastEnds z (y ∷ rest))
+lastEnds z (k ∷ a ∷ e ∷ p ∷ n ∷ x ∷ []) = k ∷ a ∷ e ∷ p ∷ n ∷ x ∷ []
+lastEnds z (k ∷ a ∷ e ∷ p ∷ n ∷ x ∷ d ∷ []) = row k a z p n x d []
+lastEnds z (k ∷ a ∷ e ∷ p ∷ n ∷ x ∷ d ∷ y ∷ rest) = row k a e p n x d (lastEnds z (y ∷ rest))
 
 -- Where a table's first row ends.
 unfoldable pub firstEnd : List ℕ → ℕ

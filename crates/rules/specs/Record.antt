@@ -5,11 +5,12 @@ use Rattle.rules.specs.Forest.{node, content, Forest, nil, byte, group, 
 
 -- The words of a row.
 abbrev pub rowWords : ℕ
-rowWords = 6
+rowWords = 7
 
--- A row in front of others: `after` is the number of the first record past the subtree.
-abbrev pub row : (kind start end parent after extra : ℕ) → List ℕ → List ℕ
-row k a z par n x rest = k ∷ a ∷ z ∷ par ∷ n ∷ x ∷ rest
+-- A row in front of others: `after` is the number of the first record past the subtree, `depth` how many records it
+-- stands in.
+abbrev pub row : (kind start end parent after extra depth : ℕ) → List ℕ → List ℕ
+row k a z par n x d rest = k ∷ a ∷ z ∷ par ∷ n ∷ x ∷ d ∷ rest
 
 -- How many nodes it has. A content is none.
 unfoldable pub count : Forest → ℕ
@@ -18,11 +19,13 @@ count (byte b u) = count u
 count (group (node k x) c u) = 1 + count c + count u
 count (group (content d) c u) = count c + count u
 
--- at: the place of its first byte. n: the number of its first record. par: the record that it stands in.
-unfoldable pub records : (at n par : ℕ) → Forest → List ℕ
-records at n par nil = []
-records at n par (byte b u) = records (at + 1) n par u
-records at n par (group (node k x) c u) =
-    row k at (at + width c) par (n + (1 + count c)) x
-    (records at (n + 1) n c ++ records (at + width c) (n + (1 + count c)) par u)
-records at n par (group (content d) c u) = records at n par c ++ records (at + width c) (n + count c) par u
+-- at: the place of its first byte. n: the number of its first record. par: the record that it stands in. deep: the
+-- number of its ancestors, which are that record and those around it. D2: "the number of its ancestors in the table".
+unfoldable pub records : (at n par deep : ℕ) → Forest → List ℕ
+records at n par deep nil = []
+records at n par deep (byte b u) = records (at + 1) n par deep u
+records at n par deep (group (node k x) c u) =
+    row k at (at + width c) par (n + (1 + count c)) x deep
+    (records at (n + 1) n (deep + 1) c ++ records (at + width c) (n + (1 + count c)) par deep u)
+records at n par deep (group (content d) c u) =
+    records at n par deep c ++ records (at + width c) (n + count c) par deep u

@@ -5,7 +5,7 @@ use lib.Dec.{ltb, eqb}
 use Rattle.rules.specs.Forest.{Label, node, content, Forest, nil, byte, group, width}
 use Rattle.rules.specs.Parse.{pick}
 use Rattle.rules.specs.Record.{count}
-use Rattle.rules.specs.Moved.{Row, sixWords}
+use Rattle.rules.specs.Moved.{Row, fields}
 
 -- The way to a content c₀ with d levels left inside it.
 pub data Spot (d : ℕ) (c₀ : Forest) : Forest → Type 0 where
@@ -47,6 +47,14 @@ module _ {d : ℕ} {c₀ : Forest} where
   holder n par (past {l = content d′} {c = c} ω) = holder (n + count c) par ω
   holder n par (skip ω) = holder n par ω
 
+  -- How many ancestors they have, in a forest that has so many.
+  unfoldable pub holders : {u : Forest} (deep : ℕ) → Spot d c₀ u → ℕ
+  holders deep (arrived p q) = deep
+  holders deep (under {l = node k x} ω) = holders (deep + 1) ω
+  holders deep (under {l = content d′} ω) = holders deep ω
+  holders deep (past ω) = holders deep ω
+  holders deep (skip ω) = holders deep ω
+
 -- ---- the content of a node, by its record number
 
 -- What is inside the node with the number j, in a forest whose first record is n.
@@ -83,8 +91,8 @@ numberAlong h x = x + h .newRecords - h .oldRecords
 -- A row in front of the content. It is an ancestor's if its `after` is past n₀: then it ends further on. Any other
 -- stays.
 unfoldable pub widened : (n₀ : ℕ) → Change → Row → Row
-widened n₀ h (sixWords k a z p n x) =
-    pick (ltb n₀ n) (sixWords k a (placeAlong h z) p (numberAlong h n) x) (sixWords k a z p n x)
+widened n₀ h (fields k a z p n x d) =
+    pick (ltb n₀ n) (fields k a (placeAlong h z) p (numberAlong h n) x d) (fields k a z p n x d)
 
 -- The parent of a row behind the content: a record behind the content has a new number. Any other stays, and so does
 -- the outermost parent par.
@@ -93,5 +101,5 @@ pushedParent n₀ par h p = pick (ltb p (n₀ + h .oldRecords)) p (pick (eqb p p
 
 -- A row behind the content.
 unfoldable pub pushed : (n₀ par : ℕ) → Change → Row → Row
-pushed n₀ par h (sixWords k a z p n x) =
-    sixWords k (placeAlong h a) (placeAlong h z) (pushedParent n₀ par h p) (numberAlong h n) x
+pushed n₀ par h (fields k a z p n x d) =
+    fields k (placeAlong h a) (placeAlong h z) (pushedParent n₀ par h p) (numberAlong h n) x d

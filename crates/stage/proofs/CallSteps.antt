@@ -149,18 +149,18 @@ module _ {reading : ℕ → Rule} (nu : Numbering reading) {s : List ℕ} where
 
     module _ {m : ℕ} (h : r ≡ Accepted m) where
       -- The table is too small, and nothing is written.
-      pub read-small : {k : ℕ} → length t / 6 < m → k ≡ m → Reads reading s t (Refused 15 k 0 0 0) t
+      pub read-small : {k : ℕ} → length t / rowWords < m → k ≡ m → Reads reading s t (Refused 15 k 0 0 0) t
       unfolding read readInto holds
       read-small i e = rw e (by (checked-got (rw h at v)))
         where
           by : Counted m (answer standard reading s) → Reads reading s t (Refused 15 m 0 0 0) t
           by (a, o, p, g, c) =
-              let f = lt-leb (count o) (length t / 6) (omega arith) in
+              let f = lt-leb (count o) (length t / rowWords) (omega arith) in
               let z = ap (readInto t) {y = got a o p} g in
               rw c (record { is = sym (z ∙ rw f); numbered = omega arith })
 
       -- There is room, and the reading's rows are written.
-      pub read-made : {r₂ : Ans} {x : Reply} {t′ : List ℕ} → m ≤ length t / 6
+      pub read-made : {r₂ : Ans} {x : Reply} {t′ : List ℕ} → m ≤ length t / rowWords
           → Made r₂ s (reading 64) 0 0 whole 0 t t′
           → x ≡ replyOf r₂
           → Reads reading s t x t′
@@ -173,7 +173,7 @@ module _ {reading : ℕ → Rule} (nu : Numbering reading) {s : List ℕ} where
               → Reads reading s t (replyOf r₂) t′
           by k (a, o, p, g, c) =
               let w : r₂ ≡ Got p (count o) = l .of .is ∙ ap (view counted) (sym k ∙ g) in
-              let f = le-leb (count o) (length t / 6) (omega arith) in
+              let f = le-leb (count o) (length t / rowWords) (omega arith) in
               let n = length-records o 0 0 missing in
               let z : t′ ≡ written (records 0 0 missing o) t =
               l .of .wrote p (count o) w

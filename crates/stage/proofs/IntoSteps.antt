@@ -27,13 +27,12 @@ use Rattle.lex.specs.declared.Ans.{Ans}
 use Rattle.lex.specs.declared.Ans.the-variants.{Got, No}
 use Rattle.lex.proofs.Laws as Lex
 use Rattle.lex.proofs.Bare.{goes-blanks, bare-blanks}
-use Rattle.table.specs.declared.Slot.{Slot}
-use Rattle.table.specs.Slot.{slotBehind}
+use Rattle.table.specs.Slot.{Seat, seatBehind}
 use Rattle.table.specs.Reader.{Room, Made}
 use Rattle.table.proofs.Made.{refused}
 use Rattle.table.proofs.Upto.{Upto, upto-begin, upto-as, upto-count}
 use Rattle.table.proofs.Upto.{upto-no, upto-when, upto-else, leaf-goes, leaf-stops}
-use Rattle.table.proofs.Upto.{made-goes, made-stops, upto-made, same-slot}
+use Rattle.table.proofs.Upto.{made-goes, made-stops, upto-made, same-seat}
 use Rattle.table.proofs.Asked.{reader-asked}
 use Rattle.tag.proofs.Rules.{goes-sibling}
 use Rattle.stage.specs.Call.{whole}
@@ -117,7 +116,7 @@ module _ {s : List ℕ} {t : List ℕ} (i : length s ≤ 1_048_576) {r : Ans} (l
         by (No n a b₁ c d) e =
             refused (upto-no passed (unopened s p (Lex.byte-not y x) (Lex.leaf-no l₂ e))) e
 
-    module _ (x : b ≡ code "<") {w : Slot} (e₀ : w ≡ whole) {r₂ : Ans} {t₂ : List ℕ}
+    module _ (x : b ≡ code "<") {w : Seat} (e₀ : w ≡ whole) {r₂ : Ans} {t₂ : List ℕ}
         (l₂ : Made r₂ s (within 64 .element ⨾ noSibling afterStage) p 1 w 0 t t₂) where
       read : Upto s (stage 64) 0 whole 0 t ((within 64 .element ⨾ noSibling afterStage) ⨾ behindElement) p 0 t
       read = upto-as passed (opened s p (Lex.byte-is y x))
@@ -128,7 +127,7 @@ module _ {s : List ℕ} {t : List ℕ} (i : length s ≤ 1_048_576) {r : Ans} (l
 
       module _ {z m : ℕ} (h₂ : r₂ ≡ Got z m) {r₃ : Ans} (l₃ : Leaf nothing r₃ s blanks z 0) where
         behind-it : Upto s (stage 64) 0 whole 0 t behindElement z m t₂
-        behind-it = upto-count (made-goes read l₂ goes-lone (e₀ ∙ same-slot whole) refl h₂) (omega arith)
+        behind-it = upto-count (made-goes read l₂ goes-lone (e₀ ∙ same-seat whole) refl h₂) (omega arith)
 
         -- The blanks behind it refuse.
         pub stage-last-stop : {t′ : List ℕ} {n a c d e : ℕ} → r₃ ≡ No n a c d e → Made r₃ s (stage 64) 0 0 whole 0 t t′
@@ -159,7 +158,7 @@ pub ruleset stage-steps = (
 
 -- ---- a run
 
-module _ {s : List ℕ} {t t₂ : List ℕ} (i : length s ≤ 1_048_576) {w : Slot} (e₀ : w ≡ whole) {r : Ans}
+module _ {s : List ℕ} {t t₂ : List ℕ} (i : length s ≤ 1_048_576) {w : Seat} (e₀ : w ≡ whole) {r : Ans}
     (l : Made r s (children (within 64)) 0 0 w 0 t t₂) where
   run-begun : Upto s (run 64) 0 whole 0 t (children (within 64) ⨾ ending unexpected) 0 0 t
   unfolding run
@@ -175,7 +174,7 @@ module _ {s : List ℕ} {t t₂ : List ℕ} (i : length s ≤ 1_048_576) {w : Sl
 
   module _ {p m : ℕ} (h : r ≡ Got p m) {b : ℕ} (y : b ≡ byteAt s p) where
     run-last : Upto s (run 64) 0 whole 0 t (ending unexpected) p m t₂
-    run-last = upto-count (made-goes run-begun l goes-children (e₀ ∙ same-slot whole) refl h) (omega arith)
+    run-last = upto-count (made-goes run-begun l goes-children (e₀ ∙ same-seat whole) refl h) (omega arith)
 
     -- The input ends behind the children.
     pub run-ends : b ≡ 256 → {p₁ m₁ : ℕ} → p₁ ≡ p → m₁ ≡ m → Made (Got p₁ m₁) s (run 64) 0 0 whole 0 t t₂
@@ -190,12 +189,18 @@ pub ruleset run-steps = (needs, run-stops, run-ends, run-more)
 -- ---- what the calls ask
 
 -- Room at the front of a table.
-pub whole-room : {s : List ℕ} {u : List ℕ} {q : Slot} → length s ≤ 1_048_576 → u ≡ s → q ≡ whole → Room 3 u 0 q
+pub whole-room : {s : List ℕ} {u : List ℕ} {q : Seat} → length s ≤ 1_048_576 → u ≡ s → q ≡ whole → Room 3 u 0 q
 whole-room i e f =
-    rw (e, f) (record { short = i; inside = omega arith; few = omega arith; held = lit< tt })
+    rw (e, f) (record {
+      short = i;
+      inside = omega arith;
+      few = omega arith;
+      held = lit< tt;
+      shallow = omega arith;
+    })
 
 -- Room behind the first blanks.
-pub blanks-room : {s : List ℕ} {u : List ℕ} {q : Slot} {r : Ans} {p j y : ℕ}
+pub blanks-room : {s : List ℕ} {u : List ℕ} {q : Seat} {r : Ans} {p j y : ℕ}
     → length s ≤ 1_048_576
     → Leaf nothing r s blanks 0 0
     → r ≡ Got p j
@@ -205,7 +210,13 @@ pub blanks-room : {s : List ℕ} {u : List ℕ} {q : Slot} {r : Ans} {p j y : �
     → Room 3 u y q
 blanks-room i l h e f g =
     let far = l .far _ _ h in
-    rw (e, f, g) (record { short = i; inside = far .1; few = omega arith; held = lit< tt })
+    rw (e, f, g) (record {
+      short = i;
+      inside = far .1;
+      few = omega arith;
+      held = lit< tt;
+      shallow = omega arith;
+    })
 
 -- A `<` that was seen stands within the input.
 pub open-inside : (s : List ℕ) (p : ℕ) {b : ℕ} (u : List ℕ) {y : ℕ}

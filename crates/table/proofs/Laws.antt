@@ -13,8 +13,7 @@ use Rattle.rules.specs.Forest.{node, Forest, nil, group, _⋈_, width}
 use Rattle.rules.specs.Record.{rowWords, row, count, records}
 use Rattle.rules.proofs.Forests.{length-records, records-join}
 use Rattle.jsx.specs.Table.{written}
-use Rattle.table.specs.declared.Slot.{Slot}
-use Rattle.table.specs.Slot.{slotInside, rowsFrom}
+use Rattle.table.specs.Slot.{Seat, seatInside, rowsFrom}
 use Rattle.table.specs.Contract.{Start, Words, nodeRow, Put, Stored}
 
 -- ---- runs of words
@@ -87,68 +86,54 @@ three-stored {k = k} {k₁} {k₂} {a} {b} {c} h₁ h₂ h₃ e₁ e₂ =
       is = h₃ .is ∙ (λ i. set (h₂ .is i) (f₂ i) c) ∙ (λ i. set (set (h₁ .is i) (f₁ i) b) (suc (suc k)) c);
     }
 
--- A row, stored as three words and three.
-pub row-stored : {t t₁ t₂ : List ℕ} {q : Slot} {k a z x m g par n : ℕ}
-    → Words q k a z x m
-    → Put 0 (k ∷ a ∷ z ∷ []) t t₁
-    → Put 3 (par ∷ g ∷ n ∷ []) t₁ t₂
-    → par ≡ q .parent
-    → g ≡ q .number + (1 + m)
-    → n ≡ x
-    → Stored 0 q k a z x m t t₂
-row-stored w h₁ h₂ e₁ e₂ e₃ = record {
-  is = h₂ .is ∙ (λ i. sets (h₁ .is i) 3 (e₁ i ∷ e₂ i ∷ e₃ i ∷ []));
-  small = omega arith;
-}
-
-pub ruleset writer-steps = (needs, word-stored, word-out, three-stored, row-stored)
+pub ruleset writer-steps = (needs, word-stored, word-out, three-stored)
 
 -- ---- rows
 
 -- A forest's rows, stored behind another's: those of the two together.
-pub stored : (u v : Forest) (t : List ℕ) (q : Slot) (at i p k j : ℕ)
+pub stored : (u v : Forest) (t : List ℕ) (q : Seat) (at i p k j : ℕ)
     → p ≡ at + width u
     → k ≡ q .number + count u
     → j ≡ i + rowWords * count u
-    → sets (sets t i (rowsFrom q at u)) j (records p k (q .parent) v) ≡ sets t i (rowsFrom q at (u ⋈ v))
+    → sets (sets t i (rowsFrom q at u)) j (records p k (q .parent) (q .depth) v) ≡ sets t i (rowsFrom q at (u ⋈ v))
 stored u v t q at i p k j d e z =
-    let h = length-records u at (q .number) (q .parent) in
+    let h = length-records u at (q .number) (q .parent) (q .depth) in
     let j′ : j ≡ i + length (rowsFrom q at u) = omega arith in
-    (λ y. sets (sets t i (rowsFrom q at u)) (j′ y) (records (d y) (e y) (q .parent) v))
-    ∙ sym (sets-append (rowsFrom q at u) (records (at + width u) (q .number + count u) (q .parent) v) t i)
-    ∙ ap (sets t i) (sym (records-join u v at (q .number) (q .parent)))
+    (λ y. sets (sets t i (rowsFrom q at u)) (j′ y) (records (d y) (e y) (q .parent) (q .depth) v))
+    ∙ sym (sets-append (rowsFrom q at u) (records (at + width u) (q .number + count u) (q .parent) (q .depth) v) t i)
+    ∙ ap (sets t i) (sym (records-join u v at (q .number) (q .parent) (q .depth)))
 
 -- A node's own row, stored after the rows below it.
-pub headed : (c : Forest) (t : List ℕ) (q : Slot) (at i j k z x m : ℕ)
+pub headed : (c : Forest) (t : List ℕ) (q : Seat) (at i j k z x m : ℕ)
     → z ≡ at + width c
     → m ≡ count c
     → j ≡ i + rowWords
-    → sets (sets t j (rowsFrom (slotInside q) at c)) i (nodeRow q k at z x m)
+    → sets (sets t j (rowsFrom (seatInside q) at c)) i (nodeRow q k at z x m)
     ≡ sets t i (rowsFrom q at (group (node k x) c nil))
 unfolding records
 headed c t q at i j k z x m hz hm hj =
-    let below = rowsFrom (slotInside q) at c in
+    let below = rowsFrom (seatInside q) at c in
     sets-before (nodeRow q k at z x m) below t i j hj
-    ∙ (λ y. sets t i (row k at (hz y) (q .parent) (q .number + (1 + hm y)) x (sym (append-nil below) y)))
+    ∙ (λ y. sets t i (row k at (hz y) (q .parent) (q .number + (1 + hm y)) x (q .depth) (sym (append-nil below) y)))
 
 -- Nothing that has no node has a row.
-pub rows-none : (c : Forest) (q : Slot) (at : ℕ) → count c ≡ 0 → rowsFrom q at c ≡ []
-rows-none c q at h = go (rowsFrom q at c) (omega (arith, length-records c at (q .number) (q .parent)))
+pub rows-none : (c : Forest) (q : Seat) (at : ℕ) → count c ≡ 0 → rowsFrom q at c ≡ []
+rows-none c q at h = go (rowsFrom q at c) (omega (arith, length-records c at (q .number) (q .parent) (q .depth)))
   where
     go : (l : List ℕ) → length l ≡ 0 → l ≡ []
     go [] e = refl
     go (x ∷ l) e = absurd (omega arith)
 
 -- The row of a node with no node below it.
-pub leaf-row : (c : Forest) (q : Slot) (at k z x : ℕ)
+pub leaf-row : (c : Forest) (q : Seat) (at k z x : ℕ)
     → z ≡ at + width c
     → count c ≡ 0
     → nodeRow q k at z x 0 ≡ rowsFrom q at (group (node k x) c nil)
 unfolding records
 leaf-row c q at k z x hz hc =
-    let below = rowsFrom (slotInside q) at c in
-    let none = sym (append-nil below ∙ rows-none c (slotInside q) at hc) in
-    λ y. row k at (hz y) (q .parent) (q .number + (1 + sym hc y)) x (none y)
+    let below = rowsFrom (seatInside q) at c in
+    let none = sym (append-nil below ∙ rows-none c (seatInside q) at hc) in
+    λ y. row k at (hz y) (q .parent) (q .number + (1 + sym hc y)) x (q .depth) (none y)
 
 -- ---- a part that was lent, `&mut t[a..]`, where a is the word k or the end
 
@@ -190,7 +175,7 @@ lent ws t {k} {a} {y} st e =
         sets-out ws t a (omega arith) ∙ sym (sets-out ws t k (omega arith))
 
 -- A row that was stored at the front of a part is stored at its place of the whole.
-pub stored-at : (t y : List ℕ) (k a : ℕ) {q : Slot} {kind b z x m : ℕ}
+pub stored-at : (t y : List ℕ) (k a : ℕ) {q : Seat} {kind b z x m : ℕ}
     → Start (length t) k a
     → Stored 0 q kind b z x m (midOf a (length t - a) t) y
     → Stored k q kind b z x m t (putMid a (length t - a) t y)
@@ -200,7 +185,7 @@ stored-at t y k a {q} {kind} {b} {z} {x} {m} st w = record {
 }
 
 -- In a table of no words nothing is stored.
-pub stored-none : (t : List ℕ) (k : ℕ) (q : Slot) (kind a z x m : ℕ)
+pub stored-none : (t : List ℕ) (k : ℕ) (q : Seat) (kind a z x m : ℕ)
     → length t ≡ 0
     → q .number + (1 + m) < 2 ^ 32
     → Stored k q kind a z x m t t

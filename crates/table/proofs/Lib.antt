@@ -1,3 +1,5 @@
+-- A slot's two words, and the seat that they say.
+pub mod Seats
 -- Stores into a table.
 pub mod Laws
 -- Which part of an input a span or a record is, and what answers it.

@@ -16,14 +16,13 @@ use Rattle.lex.specs.Contract.{view, outOf, Leaf}
 use Rattle.lex.specs.declared.Ans.{Ans}
 use Rattle.lex.specs.declared.Ans.the-variants.{Got, No}
 use Rattle.lex.proofs.Laws as Lex
-use Rattle.table.specs.declared.Slot.{Slot}
-use Rattle.table.specs.Slot.{rowsFrom}
+use Rattle.table.specs.Slot.{Seat, rowsFrom}
 use Rattle.table.specs.Contract.{Start}
 use Rattle.table.specs.Reader.{counted, MadeOf, Made}
 use Rattle.table.proofs.Laws.{lent}
 
 -- The rule refuses, and the code hands up that refusal.
-pub made-stop : {x : Answer} (s : List ℕ) (at k : ℕ) (q : Slot) (i : ℕ) (t t′ : List ℕ) {r : Ans} {n a b c d : ℕ}
+pub made-stop : {x : Answer} (s : List ℕ) (at k : ℕ) (q : Seat) (i : ℕ) (t t′ : List ℕ) {r : Ans} {n a b c d : ℕ}
     → r ≡ No n a b c d
     → x ≡ trouble n a b c d
     → MadeOf r x s at k q i t t′
@@ -34,7 +33,7 @@ made-stop {x} s at k q i t t′ f e = record {
 }
 
 -- The rule has read the forest w, which ends at p and has m records, and these were stored.
-pub made-done : {x : Answer} (s : List ℕ) (w : Forest) (at k : ℕ) (q : Slot) (i : ℕ) (t t′ : List ℕ)
+pub made-done : {x : Answer} (s : List ℕ) (w : Forest) (at k : ℕ) (q : Seat) (i : ℕ) (t t′ : List ℕ)
     (p m : ℕ) {a : Bool}
     → x ≡ got a w p
     → m ≡ count w
@@ -47,7 +46,7 @@ made-done s w at k q i t t′ p m e h far o = record {
   wrote = λ z l y. o ∙ ap (λ (v : Answer). sets t i (rowsFrom q at (outOf v))) (sym e);
 }
 
-module _ {r : Ans} {s : List ℕ} {g : Rule} {at j : ℕ} {q : Slot} {i : ℕ} {t t′ : List ℕ}
+module _ {r : Ans} {s : List ℕ} {g : Rule} {at j : ℕ} {q : Seat} {i : ℕ} {t t′ : List ℕ}
     (l : Made r s g at j q i t t′) where
   -- A reader's answer is handed up, for a rule that answers the same.
   pub made-as : (h : Rule) (k : ℕ) → readAt s g at ≡ readAt s h at → k ≤ j → Made r s h at k q i t t′
@@ -75,7 +74,7 @@ module _ {r : Ans} {s : List ℕ} {g : Rule} {at j : ℕ} {q : Slot} {i : ℕ} {
   made-count h f = Lex.leaf-number h made-leaf f
 
 -- What a reader has made changes no length.
-pub made-length : {r : Ans} {s : List ℕ} {g : Rule} {at k : ℕ} {q : Slot} {i p m : ℕ} {t t′ : List ℕ}
+pub made-length : {r : Ans} {s : List ℕ} {g : Rule} {at k : ℕ} {q : Seat} {i p m : ℕ} {t t′ : List ℕ}
     → Made r s g at k q i t t′
     → r ≡ Got p m
     → length t′ ≡ length t
@@ -83,14 +82,14 @@ made-length {s = s} {g} {at} {q = q} {i} {t = t} l h =
     ap length (l .of .wrote _ _ h) ∙ length-sets t i (rowsFrom q at (outOf (readAt s g at)))
 
 -- A refusal is handed up.
-pub refused : {r : Ans} {s : List ℕ} {g : Rule} {at k : ℕ} {q : Slot} {i : ℕ} {t t′ : List ℕ} {n a b c d : ℕ}
+pub refused : {r : Ans} {s : List ℕ} {g : Rule} {at k : ℕ} {q : Seat} {i : ℕ} {t t′ : List ℕ} {n a b c d : ℕ}
     → readAt s g at ≡ trouble n a b c d
     → r ≡ No n a b c d
     → Made r s g at k q i t t′
 refused {s = s} {at = at} {k} {q} {i} {t} {t′} e f = record { of = made-stop s at k q i t t′ f e }
 
 -- A reader that was lent the part from the word k on.
-pub made-lent : {r : Ans} {s : List ℕ} {g : Rule} {at j : ℕ} {q : Slot} (t : List ℕ) {t′ u : List ℕ} {k a : ℕ}
+pub made-lent : {r : Ans} {s : List ℕ} {g : Rule} {at j : ℕ} {q : Seat} (t : List ℕ) {t′ u : List ℕ} {k a : ℕ}
     → Start (length t) k a
     → Made r s g at j q 0 (midOf a (length t - a) t) u
     → t′ ≡ putMid a (length t - a) t u

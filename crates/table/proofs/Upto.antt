@@ -22,16 +22,15 @@ use Rattle.lex.specs.declared.Ans.{Ans}
 use Rattle.lex.specs.declared.Ans.the-variants.{Got, No}
 use Rattle.lex.proofs.Laws as Lex
 use Rattle.lex.proofs.Bare.{bare, flat-got, count-flat}
-use Rattle.table.specs.declared.Slot.{Slot}
-use Rattle.table.specs.Slot.{slotInside, slotBehind, rowsFrom}
+use Rattle.table.specs.Slot.{Seat, seatInside, seatBehind, rowsFrom}
 use Rattle.table.specs.Contract.{nodeRow, Stored}
 use Rattle.table.specs.Reader.{Made}
 use Rattle.table.proofs.Laws.{stored, headed, leaf-row, rows-none}
 use Rattle.table.proofs.Made.{made-done, made-no, made-got, made-count, refused}
 
--- The rule G began at `at`, in the slot q, at the word i of t₀. It has read up to p, with m records, which are stored:
+-- The rule G began at `at`, in the seat q, at the word i of t₀. It has read up to p, with m records, which are stored:
 -- t. The rule g is left.
-pub record Upto (s : List ℕ) (G : Rule) (at : ℕ) (q : Slot) (i : ℕ) (t₀ : List ℕ) (g : Rule) (p m : ℕ) (t : List ℕ)
+pub record Upto (s : List ℕ) (G : Rule) (at : ℕ) (q : Seat) (i : ℕ) (t₀ : List ℕ) (g : Rule) (p m : ℕ) (t : List ℕ)
     : Type 0 where
   pub acc : Forest
   pub so : readAt s G at ≡ behind acc (readAt s g p)
@@ -45,7 +44,7 @@ pub record Upto (s : List ℕ) (G : Rule) (at : ℕ) (q : Slot) (i : ℕ) (t₀ 
 -- ---- steps
 
 -- Nothing is read yet.
-pub upto-begin : {s : List ℕ} (G : Rule) {at : ℕ} (q : Slot) (i : ℕ) (t : List ℕ)
+pub upto-begin : {s : List ℕ} (G : Rule) {at : ℕ} (q : Seat) (i : ℕ) (t : List ℕ)
     → at ≤ length s
     → Upto s G at q i t G at 0 t
 unfolding width count Rattle.rules.specs.Record.records
@@ -60,7 +59,7 @@ upto-begin {s} G {at} q i t h = record {
   long = refl;
 }
 
-module _ {s : List ℕ} {G : Rule} {at : ℕ} {q : Slot} {i : ℕ} {t₀ : List ℕ} {g : Rule} {p m : ℕ} {t : List ℕ}
+module _ {s : List ℕ} {G : Rule} {at : ℕ} {q : Seat} {i : ℕ} {t₀ : List ℕ} {g : Rule} {p m : ℕ} {t : List ℕ}
     (v : Upto s G at q i t₀ g p m t) where
   -- The same, by another rule that answers the same here.
   pub upto-as : {h : Rule} → readAt s g p ≡ readAt s h p → Upto s G at q i t₀ h p m t
@@ -86,7 +85,7 @@ module _ {s : List ℕ} {G : Rule} {at : ℕ} {q : Slot} {i : ℕ} {t₀ : List 
       → z ≤ length s
       → j ≡ count o
       → 2 * p + j ≤ 2 * z
-      → t′ ≡ sets t (i + rowWords * m) (rowsFrom (slotBehind m q) p o)
+      → t′ ≡ sets t (i + rowWords * m) (rowsFrom (seatBehind m q) p o)
       → Upto s G at q i t₀ h z (m + j) t′
   upto-more {h} o {z} {j} {t′} e w b c f x =
       let w₁ = width-behind (v .acc) o in
@@ -94,7 +93,7 @@ module _ {s : List ℕ} {G : Rule} {at : ℕ} {q : Slot} {i : ℕ} {t₀ : List 
       let en = v .ends in
       let al = v .all in
       let k : i + rowWords * m ≡ i + rowWords * count (v .acc) = omega arith in
-      let now = rowsFrom (slotBehind m q) p o in
+      let now = rowsFrom (seatBehind m q) p o in
       record {
         acc = v .acc ⋈ o;
         so = v .so ∙ ap (behind (v .acc)) e ∙ behind-behind (v .acc) o (readAt s h z);
@@ -116,7 +115,7 @@ module _ {s : List ℕ} {G : Rule} {at : ℕ} {q : Slot} {i : ℕ} {t₀ : List 
       → count o ≡ 0
       → Upto s G at q i t₀ h z m t
   upto-bare {h} o {z} e w b c =
-      let none : rowsFrom (slotBehind m q) p o ≡ [] = rows-none o (slotBehind m q) p c in
+      let none : rowsFrom (seatBehind m q) p o ≡ [] = rows-none o (seatBehind m q) p c in
       let on = upto-more {h = h} o {j = 0} e w b (sym c) (omega arith) (λ y. sets t (i + rowWords * m) (sym none y)) in
       let k : m + 0 ≡ m = omega arith in
       rw k at on
@@ -125,13 +124,15 @@ module _ {s : List ℕ} {G : Rule} {at : ℕ} {q : Slot} {i : ℕ} {t₀ : List 
   pub upto-no : {x a b c d : ℕ} → readAt s g p ≡ trouble x a b c d → readAt s G at ≡ trouble x a b c d
   upto-no e = v .so ∙ ap (behind (v .acc)) e
 
--- The slot behind no record.
-pub same-slot : (q : Slot) → q ≡ slotBehind 0 q
-same-slot q = let n : q .number ≡ q .number + 0 = omega arith in λ i. record { number = n i; parent = q .parent }
+-- The seat behind no record.
+pub same-seat : (q : Seat) → q ≡ seatBehind 0 q
+same-seat q =
+    let n : q .number ≡ q .number + 0 = omega arith in
+    λ i. record { number = n i; parent = q .parent; depth = q .depth }
 
 -- ---- by the byte here, or behind what was looked over
 
-module _ {s : List ℕ} {G : Rule} {at : ℕ} {q : Slot} {i : ℕ} {t₀ : List ℕ} {f : Test} {x y : Rule} {p m : ℕ}
+module _ {s : List ℕ} {G : Rule} {at : ℕ} {q : Seat} {i : ℕ} {t₀ : List ℕ} {f : Test} {x y : Rule} {p m : ℕ}
     {t : List ℕ} where
   -- The byte here passes the test: the first rule is left.
   pub upto-when : {b : ℕ}
@@ -170,7 +171,7 @@ module _ {s : List ℕ} {G : Rule} {at : ℕ} {q : Slot} {i : ℕ} {t₀ : List 
 
 -- ---- one rule, then the other
 
-module _ {s : List ℕ} {G : Rule} {at : ℕ} {q : Slot} {i : ℕ} {t₀ : List ℕ} {x y : Rule} {p m : ℕ} {t : List ℕ}
+module _ {s : List ℕ} {G : Rule} {at : ℕ} {q : Seat} {i : ℕ} {t₀ : List ℕ} {x y : Rule} {p m : ℕ} {t : List ℕ}
     (v : Upto s G at q i t₀ (seq x y) p m t) where
   module _ {w : Bool → Forest → ℕ} {r : Ans} {k : ℕ} (z : Leaf w r s x p k) where
     -- The first is a leaf, and it refuses: so does G.
@@ -210,13 +211,13 @@ module _ {s : List ℕ} {G : Rule} {at : ℕ} {q : Slot} {i : ℕ} {t₀ : List 
       ∙ Lex.step-is s (suc (length s)) 0 p i in
       read-goes (ap bare e) (ap (λ (z : Rule). readAt s z p) e ∙ there) (omega arith)
 
-  module _ {r : Ans} {k : ℕ} {q₁ : Slot} {i₁ : ℕ} {t′ : List ℕ} (z : Made r s x p k q₁ i₁ t t′) where
+  module _ {r : Ans} {k : ℕ} {q₁ : Seat} {i₁ : ℕ} {t′ : List ℕ} (z : Made r s x p k q₁ i₁ t t′) where
     -- The first is a reader that writes, and it refuses: so does G.
     pub made-stops : {c₁ c₂ c₃ c₄ c₅ : ℕ} → r ≡ No c₁ c₂ c₃ c₄ c₅ → readAt s G at ≡ trouble c₁ c₂ c₃ c₄ c₅
     made-stops h = upto-no v (seq-no s (suc (length s)) x 0 p (made-no z h) y)
 
     -- The first is a reader that has written at its place in the table: the second is left behind what it made.
-    pub made-goes : goes x ≡ true → q₁ ≡ slotBehind m q → i₁ ≡ i + rowWords * m → {e j : ℕ} → r ≡ Got e j
+    pub made-goes : goes x ≡ true → q₁ ≡ seatBehind m q → i₁ ≡ i + rowWords * m → {e j : ℕ} → r ≡ Got e j
         → Upto s G at q i t₀ y e (m + j) t′
     made-goes go eq ei h =
         let e = made-got z go h in
@@ -231,7 +232,7 @@ module _ {s : List ℕ} {G : Rule} {at : ℕ} {q : Slot} {i : ℕ} {t₀ : List 
 
 -- ---- the last of a rule
 
-module _ {s : List ℕ} {G : Rule} {at : ℕ} {q : Slot} {i : ℕ} {t₀ : List ℕ} {x : Rule} {p m : ℕ} {t : List ℕ}
+module _ {s : List ℕ} {G : Rule} {at : ℕ} {q : Seat} {i : ℕ} {t₀ : List ℕ} {x : Rule} {p m : ℕ} {t : List ℕ}
     (v : Upto s G at q i t₀ x p m t) where
   module _ {w : Bool → Forest → ℕ} {r : Ans} {k : ℕ} (z : Leaf w r s x p k) where
     -- A leaf is left, and it refuses: so does G.
@@ -249,13 +250,13 @@ module _ {s : List ℕ} {G : Rule} {at : ℕ} {q : Slot} {i : ℕ} {t₀ : List 
         (z .far _ _ h .1)
         (count-flat _ (flat-got s (suc (length s)) x 0 p ba e))
 
-  module _ {r : Ans} {k : ℕ} {q₁ : Slot} {i₁ : ℕ} {t′ : List ℕ} (z : Made r s x p k q₁ i₁ t t′) where
+  module _ {r : Ans} {k : ℕ} {q₁ : Seat} {i₁ : ℕ} {t′ : List ℕ} (z : Made r s x p k q₁ i₁ t t′) where
     -- A reader that writes is left, and it refuses: so does G.
     pub last-made-stops : {c₁ c₂ c₃ c₄ c₅ : ℕ} → r ≡ No c₁ c₂ c₃ c₄ c₅ → readAt s G at ≡ trouble c₁ c₂ c₃ c₄ c₅
     last-made-stops h = upto-no v (made-no z h)
 
     -- A reader is left, and it has written at its place in the table: nothing more is left.
-    pub last-made : goes x ≡ true → q₁ ≡ slotBehind m q → i₁ ≡ i + rowWords * m → {e j : ℕ} → r ≡ Got e j
+    pub last-made : goes x ≡ true → q₁ ≡ seatBehind m q → i₁ ≡ i + rowWords * m → {e j : ℕ} → r ≡ Got e j
         → Upto s G at q i t₀ done e (m + j) t′
     unfolding parse
     last-made go eq ei {e = z₁} h =
@@ -272,29 +273,29 @@ module _ {s : List ℕ} {G : Rule} {at : ℕ} {q : Slot} {i : ℕ} {t₀ : List 
 -- ---- loops: a turn T of `many T`, which began at p, is itself on its way
 
 -- A turn that is through goes on, with what was read on its way.
-pub turn-read : {s : List ℕ} {T : Rule} {p : ℕ} {q : Slot} {i z j : ℕ} {t t′ : List ℕ}
+pub turn-read : {s : List ℕ} {T : Rule} {p : ℕ} {q : Seat} {i z j : ℕ} {t t′ : List ℕ}
     (u : Upto s T p q i t done z j t′)
     → readAt s T p ≡ got true (u .acc) z
 unfolding parse
 turn-read {z = z} u = u .so ∙ ap (λ (o : Forest). got true o z) (behind-nil (u .acc))
 
 -- A turn that has come to its `stop` ends the loop, with what was read on its way.
-pub stop-read : {s : List ℕ} {T : Rule} {p : ℕ} {q : Slot} {i z j : ℕ} {t t′ : List ℕ}
+pub stop-read : {s : List ℕ} {T : Rule} {p : ℕ} {q : Seat} {i z j : ℕ} {t t′ : List ℕ}
     (u : Upto s T p q i t stop z j t′)
     → readAt s T p ≡ got false (u .acc) z
 unfolding parse
 stop-read {z = z} u = u .so ∙ ap (λ (o : Forest). got false o z) (behind-nil (u .acc))
 
 -- What a turn stored.
-turn-wrote : {s : List ℕ} {T g : Rule} {p : ℕ} {q₁ : Slot} {i₁ z j : ℕ} {t t′ : List ℕ} (q : Slot) (i m : ℕ)
-    → q₁ ≡ slotBehind m q
+turn-wrote : {s : List ℕ} {T g : Rule} {p : ℕ} {q₁ : Seat} {i₁ z j : ℕ} {t t′ : List ℕ} (q : Seat) (i m : ℕ)
+    → q₁ ≡ seatBehind m q
     → i₁ ≡ i + rowWords * m
     → (u : Upto s T p q₁ i₁ t g z j t′)
-    → t′ ≡ sets t (i + rowWords * m) (rowsFrom (slotBehind m q) p (u .acc))
+    → t′ ≡ sets t (i + rowWords * m) (rowsFrom (seatBehind m q) p (u .acc))
 turn-wrote {p = p} {t = t} q i m eq ei u = u .wrote ∙ (λ o. sets t (ei o) (rowsFrom (eq o) p (u .acc)))
 
-module _ {s : List ℕ} {G T : Rule} {at : ℕ} {q : Slot} {i : ℕ} {t₀ : List ℕ} {p m : ℕ} {t : List ℕ} where
-  module _ {q₁ : Slot} {i₁ z j : ℕ} {t′ : List ℕ} (eq : q₁ ≡ slotBehind m q) (ei : i₁ ≡ i + rowWords * m) where
+module _ {s : List ℕ} {G T : Rule} {at : ℕ} {q : Seat} {i : ℕ} {t₀ : List ℕ} {p m : ℕ} {t : List ℕ} where
+  module _ {q₁ : Seat} {i₁ z j : ℕ} {t′ : List ℕ} (eq : q₁ ≡ seatBehind m q) (ei : i₁ ≡ i + rowWords * m) where
     -- `many T` is the last of G, and had one more turn: it is left from there on.
     pub loop-on : Upto s G at q i t₀ (many T) p m t → Upto s T p q₁ i₁ t done z j t′ → p < z
         → Upto s G at q i t₀ (many T) z (m + j) t′
@@ -355,7 +356,7 @@ module _ {s : List ℕ} {G T : Rule} {at : ℕ} {q : Slot} {i : ℕ} {t₀ : Lis
 -- ---- to close a return
 
 -- The rule is through.
-pub upto-made : {s : List ℕ} {G : Rule} {at : ℕ} {q : Slot} {i : ℕ} {t₀ : List ℕ} {p m : ℕ} {t : List ℕ} (k : ℕ)
+pub upto-made : {s : List ℕ} {G : Rule} {at : ℕ} {q : Seat} {i : ℕ} {t₀ : List ℕ} {p m : ℕ} {t : List ℕ} (k : ℕ)
     → Upto s G at q i t₀ done p m t
     → at + k ≤ p
     → Made (Got p m) s G at k q i t₀ t
@@ -364,7 +365,7 @@ upto-made {s} {at = at} {q} {i} {t₀} {p} {m} {t} k v h = record {
 }
 
 -- A reader of all that is left is called last, and its answer is handed up.
-pub handed-up : {r : Ans} {s : List ℕ} {G g : Rule} {at p j : ℕ} {q q₁ : Slot} {i i₁ : ℕ} {t t′ : List ℕ} (k : ℕ)
+pub handed-up : {r : Ans} {s : List ℕ} {G g : Rule} {at p j : ℕ} {q q₁ : Seat} {i i₁ : ℕ} {t t′ : List ℕ} (k : ℕ)
     → Upto s G at q i t g p 0 t
     → goes g ≡ true
     → Made r s g p j q₁ i₁ t t′
@@ -378,13 +379,13 @@ handed-up {r} {s} {G} {g} {at} {p} {j} {q} {i = i} {t = t} {t′} k v go l eq ei
     by (Got z m) e =
         let far = l .of .far _ _ e in
         let n : i + rowWords * 0 ≡ i = omega arith in
-        let on = upto-count (last-made v l go (eq ∙ same-slot q) (ei ∙ sym n) e) {k = m} (omega arith) in
+        let on = upto-count (last-made v l go (eq ∙ same-seat q) (ei ∙ sym n) e) {k = m} (omega arith) in
         rw e (upto-made k on (omega arith))
     by (No n a b c d) e = refused (upto-no v (made-no l e)) e
 
 -- What is inside a node is through, and then its own row was stored.
-pub node-made : {s : List ℕ} {G : Rule} {at : ℕ} {q : Slot} {i : ℕ} {t₀ : List ℕ} {p m : ℕ} {t t′ : List ℕ} (K k : ℕ)
-    → Upto s G at (slotInside q) (i + rowWords) t₀ done p m t
+pub node-made : {s : List ℕ} {G : Rule} {at : ℕ} {q : Seat} {i : ℕ} {t₀ : List ℕ} {p m : ℕ} {t t′ : List ℕ} (K k : ℕ)
+    → Upto s G at (seatInside q) (i + rowWords) t₀ done p m t
     → at + k ≤ p
     → Stored i q K at p 0 m t t′
     → 2 * at + (m + 1) ≤ 2 * p
@@ -409,7 +410,7 @@ pub node-no : (s : List ℕ) (G : Rule) (at : ℕ) {x a b c d : ℕ} (K : ℕ)
 node-no s G at K e = wrap-no s (suc (length s)) G 0 at e (λ o. node K 0)
 
 -- A node that holds bytes alone: they were read, and its row was stored.
-pub leaf-made : {s : List ℕ} {g : Rule} {at : ℕ} {q : Slot} {i : ℕ} {t t′ : List ℕ} {o : Forest} {e K x : ℕ}
+pub leaf-made : {s : List ℕ} {g : Rule} {at : ℕ} {q : Seat} {i : ℕ} {t t′ : List ℕ} {o : Forest} {e K x : ℕ}
     (label : Forest → Label) (k : ℕ)
     → bare g ≡ true
     → readAt s g at ≡ got true o e

@@ -5,16 +5,16 @@ ghost use mathlib.Core.List.{[], _∷_};
 ghost use Prim.Native.Nat.{_+_, _<_, _^_};
 ghost use lib.ListN.{getD};
 ghost use Rattle.jsx.specs.Table.{noPart, spanPart, recordPart};
-ghost use Rattle.table.specs.Slot.{slotInside, slotBehind};
-ghost use Rattle.table.specs.Contract.{Start, Words, Put, Stored, Answered};
+ghost use Rattle.table.specs.Slot.{seat, seatInside, seatBehind};
+ghost use Rattle.table.specs.Contract.{Start, Enterable, Words, Put, Stored, Answered};
 
 // The words of a row.
-pub const ROW_WORDS: usize = 6;
+pub const ROW_WORDS: usize = 7;
 
 // The parent of a record that has none.
 pub const MISSING: usize = 4_294_967_295;
 
-// Places in a row: kind, start and end; then parent, `after` and extra.
+// Places in a row: kind, start and end; then parent, `after` and extra; then depth.
 const KIND: usize = 0;
 
 const START: usize = 1;
@@ -23,31 +23,50 @@ const END: usize = 2;
 
 const PARENT: usize = 3;
 
-// Where a reader stands in the table: the number of its next record, and the record that it stands in.
+const DEPTH: usize = 6;
+
+// One level deeper, in the word that a number and a depth share.
+const LEVEL: usize = 4_294_967_296;
+
+// Where a reader stands in the table: the number of its next record plus LEVEL for each record that it stands in; and the innermost of those. (Two words travel through the calls of a reader where three would.)
 pub struct Slot {
-    pub number: usize,
+    pub here: usize,
     pub parent: usize,
 }
 
 impl Slot {
+    // The number of the next record.
+    fn number(self) -> usize
+        ensures { λ r. ⌜ r ≡ seat self .number ⌝ }
+    {
+        self.here % LEVEL
+    }
+
+    // How many records it stands in.
+    fn depth(self) -> usize
+        ensures { λ r. ⌜ r ≡ seat self .depth ⌝ }
+    {
+        self.here / LEVEL
+    }
+
     // Inside the record here.
     pub fn inside(self) -> Slot
-        requires { ⌜ self .number < 2 ^ 32 ⌝ }
-        ensures { λ r. ⌜ r ≡ slotInside self ⌝ }
+        requires { ⌜ Enterable (seat self) ⌝ }
+        ensures { λ r. ⌜ seat r ≡ seatInside (seat self) ⌝ }
     {
         Slot {
-            number: self.number + 1,
-            parent: self.number,
+            here: self.here + (LEVEL + 1),
+            parent: self.here % LEVEL,
         }
     }
 
     // Behind m records.
     pub fn behind(self, m: usize) -> Slot
-        requires { ⌜ self .number + m < 2 ^ 32 ⌝ }
-        ensures { λ r. ⌜ r ≡ slotBehind m self ⌝ }
+        requires { ⌜ seat self .number + m < 2 ^ 32 ⌝ }
+        ensures { λ r. ⌜ seat r ≡ seatBehind m (seat self) ⌝ }
     {
         Slot {
-            number: self.number + m,
+            here: self.here + m,
             parent: self.parent,
         }
     }
@@ -91,17 +110,18 @@ fn put_three(t: &mut [u32], k: usize, a: usize, b: usize, c: usize)
 
 // A node's row at the front of the part.
 pub fn put_node(t: &mut [u32], slot: Slot, w: Node)
-    requires { ⌜ Words slot (w .kind) (w .start) (w .end) (w .extra) (w .below) ⌝ }
-    ensures { λ _. ⌜ Stored 0 slot (w .kind) (w .start) (w .end) (w .extra) (w .below) (now (t .entry)) (now (t .exit)) ⌝ }
+    requires { ⌜ Words (seat slot) (w .kind) (w .start) (w .end) (w .extra) (w .below) ⌝ }
+    ensures { λ _. ⌜ Stored 0 (seat slot) (w .kind) (w .start) (w .end) (w .extra) (w .below) (now (t .entry)) (now (t .exit)) ⌝ }
 {
     put_three(t, KIND, w.kind, w.start, w.end);
-    put_three(t, PARENT, slot.parent, slot.number + (1 + w.below), w.extra);
+    put_three(t, PARENT, slot.parent, slot.number() + (1 + w.below), w.extra);
+    put_word(t, DEPTH, slot.depth());
 }
 
 // A node's row at the word k: its writer is lent only the part from there on.
 pub fn put_node_at(t: &mut [u32], k: usize, slot: Slot, w: Node)
-    requires { ⌜ Words slot (w .kind) (w .start) (w .end) (w .extra) (w .below) ⌝ }
-    ensures { λ _. ⌜ Stored k slot (w .kind) (w .start) (w .end) (w .extra) (w .below) (now (t .entry)) (now (t .exit)) ⌝ }
+    requires { ⌜ Words (seat slot) (w .kind) (w .start) (w .end) (w .extra) (w .below) ⌝ }
+    ensures { λ _. ⌜ Stored k (seat slot) (w .kind) (w .start) (w .end) (w .extra) (w .below) (now (t .entry)) (now (t .exit)) ⌝ }
 {
     let i = start(t.len(), k);
     put_node(&mut t[i..], slot, w);

@@ -29,14 +29,13 @@ use Rattle.lex.specs.declared.Ans.{Ans}
 use Rattle.lex.specs.declared.Ans.the-variants.{Got, No}
 use Rattle.lex.proofs.Laws as Lex
 use Rattle.lex.proofs.Bare.{Flat, flat-got}
-use Rattle.table.specs.declared.Slot.{Slot}
-use Rattle.table.specs.Slot.{slotInside}
+use Rattle.table.specs.Slot.{Seat, seatInside}
 use Rattle.table.specs.Contract.{Start, Words, Stored}
 use Rattle.table.specs.Reader.{Room, MadeOf, Made}
 use Rattle.table.proofs.Made.{made-stop, made-as, made-no, made-got, made-lent}
-use Rattle.table.proofs.Upto.{Upto, upto-begin, upto-as, upto-count, same-slot, read-goes, made-goes}
+use Rattle.table.proofs.Upto.{Upto, upto-begin, upto-as, upto-count, same-seat, read-goes, made-goes}
 use Rattle.table.proofs.Upto.{last-leaf, node-made, node-no}
-use Rattle.table.proofs.Asked.{leaf-inside, made-inside, slot-fits, room-here}
+use Rattle.table.proofs.Asked.{leaf-inside, made-inside, enter-here, room-here}
 use Rattle.same.specs.Contract.{Named, sameNames}
 use Rattle.same.proofs.Forms.{nameAt}
 use Rattle.tag.specs.declared.Opened.{Opened}
@@ -52,7 +51,7 @@ use Rattle.tag.proofs.OpenedSteps.{opening-copy}
 -- ---- answers under a verdict
 
 -- The tag is refused, whatever was opened.
-tag-no : {s : List ℕ} {c : ℕ} {q : Slot} {t t′ : List ℕ} {r : Ans} {n a b g y : ℕ} (at w : ℕ) (x : TagName)
+tag-no : {s : List ℕ} {c : ℕ} {q : Seat} {t t′ : List ℕ} {r : Ans} {n a b g y : ℕ} (at w : ℕ) (x : TagName)
     → readAt s inClosing c ≡ trouble n a b g y
     → r ≡ No n a b g y
     → MadeOf r (closing s at w x c) s c 3 q 0 t t′
@@ -61,7 +60,7 @@ tag-no {s} {c} {q} {t} {t′} at w x e h =
     (closing-no s at w c x (sym (close-opened s c) ∙ node-no s inClosing c Kind.closingTag e))
 
 -- The tag is taken as its rule read it.
-tag-made : {s : List ℕ} {c : ℕ} {q : Slot} {t t′ : List ℕ} {r : Ans} {x : Answer}
+tag-made : {s : List ℕ} {c : ℕ} {q : Seat} {t t′ : List ℕ} {r : Ans} {x : Answer}
     → x ≡ readAt s closeTag c
     → Made r s (nodeOf Kind.closingTag inClosing) c 3 q 0 t t′
     → MadeOf r x s c 3 q 0 t t′
@@ -73,7 +72,7 @@ tag-made {s} {c} {q} {t} {t′} {r} e l =
 
 module _ {s : List ℕ} {c q : ℕ} (v : Slashed s c q) where
   -- Behind `<` and `/`.
-  slashed : (i : Slot) (t : List ℕ) → c ≤ length s
+  slashed : (i : Seat) (t : List ℕ) → c ≤ length s
       → Upto s inClosing c i rowWords t (closeName ⨾ closeBy (code ">")) q 0 t
   slashed i t h =
       read-goes (upto-begin inClosing i rowWords t h) bare-close-open (v .read .is) (v .read .far .1)
@@ -89,7 +88,7 @@ module _ {s : List ℕ} {c q : ℕ} (v : Slashed s c q) where
   wide : q ≡ c + width (outOf (readAt s closeOpen c))
   wide = wide-got s (suc (length s)) closeOpen 0 c (v .read .is)
 
-  module _ {r : Ans} {q₁ : Slot} {i : ℕ} {t t₁ : List ℕ} (l : Made r s elementName q 1 q₁ i t t₁) where
+  module _ {r : Ans} {q₁ : Seat} {i : ℕ} {t t₁ : List ℕ} (l : Made r s elementName q 1 q₁ i t t₁) where
     closing-name : Made r s closeName q 1 q₁ i t t₁
     closing-name = made-as l closeName 1 named-is (omega arith)
 
@@ -133,31 +132,31 @@ module _ {s : List ℕ} {c q : ℕ} (v : Slashed s c q) where
               (outOf (readAt s closeOpen c) ⋈ (y ⋈ rest)) nil) z) (name .is)
 
           -- Its rows are stored.
-          tag-stored : {j : Slot} {t₂ : List ℕ} → q₁ ≡ slotInside j → i ≡ rowWords → c ≤ length s
+          tag-stored : {j : Seat} {t₂ : List ℕ} → q₁ ≡ seatInside j → i ≡ rowWords → c ≤ length s
               → Stored 0 j Kind.closingTag c z 0 k t₁ t₂
               → Made (Got z (k + 1)) s (nodeOf Kind.closingTag inClosing) c 3 j 0 t t₂
           tag-stored {j} g e b w =
               let far = v .read .far in
               let far₁ = l .of .far _ _ h in
               let far₂ = l₂ .far _ _ h₂ in
-              let on = made-goes (slashed (slotInside j) t b) closing-name goes-close-name
-              (g ∙ same-slot (slotInside j)) (e ∙ omega arith) h in
+              let on = made-goes (slashed (seatInside j) t b) closing-name goes-close-name
+              (g ∙ same-seat (seatInside j)) (e ∙ omega arith) h in
               let through = upto-count (last-leaf on l₂ (goes-close (code ">")) (bare-close (code ">")) h₂) {k = k}
               (omega arith) in
               node-made Kind.closingTag 3 through (omega arith) w (omega arith)
 
 -- ---- close_named
 
-module _ {s : List ℕ} {o : Opened} {c : ℕ} {q : Slot} {p : ℕ} (op : Opening s o) (room : Room 3 s c q)
+module _ {s : List ℕ} {o : Opened} {c : ℕ} {q : Seat} {p : ℕ} (op : Opening s o) (room : Room 3 s c q)
     (v : Slashed s c p)
-    (t : List ℕ) {i : ℕ} (st : Start (length t) 6 i) {q₁ : Slot} (g : q₁ ≡ slotInside q) {r : Ans} {u : List ℕ}
+    (t : List ℕ) {i : ℕ} (st : Start (length t) rowWords i) {q₁ : Seat} (g : q₁ ≡ seatInside q) {r : Ans} {u : List ℕ}
     (l : Made r s elementName p 1 q₁ 0 (midOf i (length t - i) t) u) where
   -- The name refuses.
   pub named-stops : {t′ : List ℕ} {n a b d y : ℕ} → r ≡ No n a b d y → MadeOf r (closingNamed s o c) s c 3 q 0 t t′
   named-stops h = tag-no (o .at) 0 (nameFrom s (o .at) (o .start)) (name-stops v l h) h
 
   module _ {f k : ℕ} (h : r ≡ Got f k) {r₂ : Ans} (l₂ : Leaf nothing r₂ s (closeBy (code ">")) f 1) where
-    lent : Made r s elementName p 1 q₁ 6 t (putMid i (length t - i) t u)
+    lent : Made r s elementName p 1 q₁ rowWords t (putMid i (length t - i) t u)
     lent = made-lent t st l refl
 
     -- The tag's end refuses.
@@ -247,7 +246,7 @@ module _ {s : List ℕ} {c : ℕ} {r : Ans} (l : Leaf nothing r s closeOpen c 2)
           omega arith
 
       -- Its row is stored.
-      bare-stored : {q : Slot} {t t₁ : List ℕ} → c ≤ length s → Stored 0 q Kind.closingTag c (p + 1) 0 0 t t₁
+      bare-stored : {q : Seat} {t t₁ : List ℕ} → c ≤ length s → Stored 0 q Kind.closingTag c (p + 1) 0 0 t t₁
           → Made (Got (p + 1) 1) s (nodeOf Kind.closingTag inClosing) c 3 q 0 t t₁
       unfolding closeBy closeName parse _⋈_
       bare-stored {q} {t} b w =
@@ -264,7 +263,7 @@ module _ {s : List ℕ} {c : ℕ} {r : Ans} (l : Leaf nothing r s closeOpen c 2)
           (Lex.when-yes s F 0 p (is ">") done elementName (eq-eqb _ (code ">") x))
           ∙ behind-none (readAt s (closeBy (code ">")) p) in
           let on = upto-as
-          (read-goes (upto-begin inClosing (slotInside q) rowWords t b) bare-close-open open-got (far .1))
+          (read-goes (upto-begin inClosing (seatInside q) rowWords t b) bare-close-open open-got (far .1))
           none in
           node-made Kind.closingTag 3
           (last-leaf on l₂ (goes-close (code ">")) (bare-close (code ">")) refl) (omega arith) w (omega arith)
@@ -273,7 +272,7 @@ module _ {s : List ℕ} {c : ℕ} {r : Ans} (l : Leaf nothing r s closeOpen c 2)
 pub read-stops : {s : List ℕ} {o : Opened} {c : ℕ} {r : Ans}
     → Opening s o
     → Leaf nothing r s closeOpen c 2
-    → {q : Slot} {t t′ : List ℕ} {n a b d y : ℕ} → r ≡ No n a b d y
+    → {q : Seat} {t t′ : List ℕ} {n a b d y : ℕ} → r ≡ No n a b d y
     → MadeOf r (closingNamed s o c) s c 3 q 0 t t′
 read-stops {s} {o} v l h = tag-no (o .at) 0 (nameFrom s (o .at) (o .start)) (open-no l h) h
 
@@ -284,7 +283,7 @@ pub read-bare : {s : List ℕ} {o : Opened} {c : ℕ} {r : Ans} {p j b : ℕ}
     → r ≡ Got p j
     → b ≡ byteAt s p
     → b ≡ code ">"
-    → {q : Slot} {t t′ : List ℕ} {y : ℕ} → y ≡ p + 1
+    → {q : Seat} {t t′ : List ℕ} {y : ℕ} → y ≡ p + 1
     → MadeOf (No 9 (o .start) (o .end) c y) (closingNamed s o c) s c 3 q 0 t t′
 read-bare {s} {o} {c} op l h e x {q} {t} {t′} y =
     let A = node-at (op .read) in
@@ -298,9 +297,9 @@ pub ruleset read-steps = (needs, read-stops, read-bare)
 
 -- ---- close_by_name
 
-module _ {s : List ℕ} {at e c : ℕ} {q : Slot} {p : ℕ} (le : at ≤ e) (room : Room 3 s c q)
-    (v : Slashed s c p) {q₁ : Slot}
-    (g : q₁ ≡ slotInside q)
+module _ {s : List ℕ} {at e c : ℕ} {q : Seat} {p : ℕ} (le : at ≤ e) (room : Room 3 s c q)
+    (v : Slashed s c p) {q₁ : Seat}
+    (g : q₁ ≡ seatInside q)
     {r : Ans} {t t₁ : List ℕ} (l : Made r s elementName p 1 q₁ 0 t t₁) where
   -- The name refuses.
   pub by-name-stops : {t₀ t′ : List ℕ} {n a b d y : ℕ} → r ≡ No n a b d y
@@ -326,7 +325,7 @@ pub ruleset by-name-steps = (needs, by-name-stops, by-name-end-stops, by-name-is
 
 -- ---- close_fragment
 
-module _ {s : List ℕ} {at e c : ℕ} {q : Slot} (le : at ≤ e) (room : Room 3 s c q) {r : Ans}
+module _ {s : List ℕ} {at e c : ℕ} {q : Seat} (le : at ≤ e) (room : Room 3 s c q) {r : Ans}
     (l : Leaf nothing r s closeOpen c 2) where
   -- Neither `<` nor `/`, or blanks that refuse.
   pub fragment-stops : {t t′ : List ℕ} {n a b d y : ℕ} → r ≡ No n a b d y
@@ -348,25 +347,31 @@ pub ruleset fragment-steps = (needs, fragment-stops, fragment-made)
 
 -- ---- what the calls ask
 
-module _ {s : List ℕ} {c : ℕ} {q : Slot} (room : Room 3 s c q) where
+module _ {s : List ℕ} {c : ℕ} {q : Seat} (room : Room 3 s c q) where
   -- Room for the name,
-  pub name-room : {p : ℕ} → Slashed s c p → {q₁ : Slot} {u : List ℕ} {y : ℕ} → q₁ ≡ slotInside q → u ≡ s → y ≡ p
+  pub name-room : {p : ℕ} → Slashed s c p → {q₁ : Seat} {u : List ℕ} {y : ℕ} → q₁ ≡ seatInside q → u ≡ s → y ≡ p
       → Room 3 u y q₁
   name-room v g e f =
       let few = room .few in
       let short = room .short in
       let here = room .inside in
       let far = v .read .far in
-      rw (g, e, f) (record { short = room .short; inside = omega arith; few = omega arith; held = omega arith })
+      rw (g, e, f) (record {
+        short = room .short;
+        inside = omega arith;
+        few = omega arith;
+        held = omega arith;
+        shallow = omega (arith, room .shallow);
+      })
 
   -- for the row of a tag with a name,
-  pub named-words : {p : ℕ} {r : Ans} {q₁ : Slot} {t u : List ℕ} {f k : ℕ} {r₂ : Ans} {z j : ℕ}
+  pub named-words : {p : ℕ} {r : Ans} {q₁ : Seat} {t u : List ℕ} {f k : ℕ} {r₂ : Ans} {z j : ℕ}
       → Slashed s c p
       → Made r s elementName p 1 q₁ 0 t u
       → r ≡ Got f k
       → Leaf nothing r₂ s (closeBy (code ">")) f 1
       → r₂ ≡ Got z j
-      → {q₂ : Slot} {x y m : ℕ} → q₂ ≡ q
+      → {q₂ : Seat} {x y m : ℕ} → q₂ ≡ q
       → x ≡ c
       → y ≡ z
       → m ≡ k
@@ -375,6 +380,7 @@ module _ {s : List ℕ} {c : ℕ} {q : Slot} (room : Room 3 s c q) where
       let few = room .few in
       let short = room .short in
       let held = room .held in
+      let deep = room .shallow in
       let far = v .read .far in
       let far₁ = l .of .far _ _ h in
       let far₂ = l₂ .far _ _ h₂ in
@@ -382,7 +388,7 @@ module _ {s : List ℕ} {c : ℕ} {q : Slot} (room : Room 3 s c q) where
 
   -- and for that of one with none.
   pub bare-words : {r : Ans} {p j : ℕ} → Leaf nothing r s closeOpen c 2 → r ≡ Got p j
-      → {q₂ : Slot} {x y : ℕ} → q₂ ≡ q
+      → {q₂ : Seat} {x y : ℕ} → q₂ ≡ q
       → x ≡ c
       → y ≡ p + 1
       → Words q₂ Kind.closingTag x y 0 0
@@ -390,6 +396,7 @@ module _ {s : List ℕ} {c : ℕ} {q : Slot} (room : Room 3 s c q) where
       let few = room .few in
       let short = room .short in
       let held = room .held in
+      let deep = room .shallow in
       let far = l .far _ _ h in
       rw (g, e, f) (omega arith)
 
@@ -405,7 +412,7 @@ module _ {s : List ℕ} {c : ℕ} {q : Slot} (room : Room 3 s c q) where
       omega arith
 
   -- So does the count of a name with its tag's.
-  pub named-fits : {p : ℕ} {r : Ans} {q₁ : Slot} {i : ℕ} {t u : List ℕ} {f k : ℕ} → Made r s elementName p 1 q₁ i t u
+  pub named-fits : {p : ℕ} {r : Ans} {q₁ : Seat} {i : ℕ} {t u : List ℕ} {f k : ℕ} → Made r s elementName p 1 q₁ i t u
       → r ≡ Got f k
       → {y : ℕ} → y ≡ k
       → Fits w64 (y + 1)
@@ -420,7 +427,7 @@ pub named-opened : {s : List ℕ} {o : Opened} → Opening s o → {u : List ℕ
 named-opened v e f g = rw (e, f, g) (v .read)
 
 -- So was the closing name.
-pub named-closing : {r : Ans} {s : List ℕ} {p k : ℕ} {q : Slot} {i f j : ℕ} {t t′ : List ℕ}
+pub named-closing : {r : Ans} {s : List ℕ} {p k : ℕ} {q : Seat} {i f j : ℕ} {t t′ : List ℕ}
     → Made r s elementName p k q i t t′
     → r ≡ Got f j
     → {u : List ℕ} {x y : ℕ} → x ≡ p
@@ -431,7 +438,7 @@ named-closing l h e f g =
     rw (e, f, g) (record { read = made-got l goes-element-name h; inside = l .of .far _ _ h .1 })
 
 pub ruleset named-asked =
-    (needs, slot-fits, leaf-inside, made-inside, name-room, named-words, named-fits, named-opened, named-closing)
+    (needs, enter-here, leaf-inside, made-inside, name-room, named-words, named-fits, named-opened, named-closing)
 
 pub ruleset read-asked =
-    (needs, slot-fits, leaf-inside, room-here, opening-copy, slashed-asked, name-room, bare-words, bare-fits)
+    (needs, enter-here, leaf-inside, room-here, opening-copy, slashed-asked, name-room, bare-words, bare-fits)

@@ -13,7 +13,7 @@ use Rattle.lex.specs.Contract.{nothing, Leaf}
 use Rattle.lex.specs.declared.Ans.{Ans}
 use Rattle.lex.specs.declared.Ans.the-variants.{Got, No}
 use Rattle.lex.proofs.Laws as Lex
-use Rattle.table.specs.declared.Slot.{Slot}
+use Rattle.table.specs.Slot.{Seat}
 use Rattle.table.specs.Contract.{Words, Stored}
 use Rattle.table.specs.Reader.{Room, Made}
 use Rattle.table.proofs.Made.{refused}
@@ -21,7 +21,7 @@ use Rattle.table.proofs.Upto.{leaf-made}
 use Rattle.table.proofs.Asked.{reader-asked}
 use Rattle.tag.proofs.Rules.{inQuotes, goes-quoted, bare-quoted}
 
-module _ {s : List ℕ} {at : ℕ} {r : Ans} (l : Leaf nothing r s quoted at 2) {q : Slot} {t : List ℕ} where
+module _ {s : List ℕ} {at : ℕ} {r : Ans} (l : Leaf nothing r s quoted at 2) {q : Seat} {t : List ℕ} where
   -- It never closes.
   pub quoted-stops : {t′ : List ℕ} {n a b c d : ℕ} → r ≡ No n a b c d → Made r s quoted at 2 q 0 t t′
   quoted-stops h = refused (Lex.leaf-no l h) h
@@ -36,12 +36,12 @@ module _ {s : List ℕ} {at : ℕ} {r : Ans} (l : Leaf nothing r s quoted at 2) 
       rw f (leaf-made (λ o. node Kind.quoted 0) 1 bare-quoted (x .1) refl (far .1) (omega arith) w)
 
 -- Its row may be stored.
-pub quoted-words : {c : ℕ} {s : List ℕ} {at : ℕ} {q : Slot} {r : Ans} {e j : ℕ}
+pub quoted-words : {c : ℕ} {s : List ℕ} {at : ℕ} {q : Seat} {r : Ans} {e j : ℕ}
     → Room c s at q
     → c ≤ 100
     → Leaf nothing r s quoted at 2
     → r ≡ Got e j
-    → {q₁ : Slot} {a z : ℕ} → q₁ ≡ q
+    → {q₁ : Seat} {a z : ℕ} → q₁ ≡ q
     → a ≡ at
     → z ≡ e
     → Words q₁ Kind.quoted a z 0 0
@@ -50,6 +50,7 @@ quoted-words room i l h f g k =
     let short = room .short in
     let here = room .inside in
     let held = room .held in
+    let deep = room .shallow in
     let far = l .far _ _ h in
     rw (f, g, k) (omega arith)
 

@@ -11,6 +11,7 @@ ghost use Rattle.jsx.specs.Expression.{noSibling};
 ghost use Rattle.jsx.specs.Tag.{tagEnd};
 ghost use Rattle.jsx.specs.Closing.{noName};
 ghost use Rattle.lex.specs.Contract.{Leaf, nothing};
+ghost use Rattle.table.specs.Slot.{seat};
 ghost use Rattle.table.specs.Reader.{Room, Made, MadeOf};
 ghost use Rattle.tag.specs.Token.{openBy, closeBy, closeOpen, goesOn};
 ghost use Rattle.tag.specs.Close.{Closes, Told, Opening, Slashed, closing, closingNamed};
@@ -104,8 +105,8 @@ pub fn no_sibling(s: &[u8], at: usize, n: u32) -> Ans
 
 // A quoted attribute value, whose quote was seen, and its record.
 pub fn quoted_value(t: &mut [u32], s: &[u8], at: usize, slot: Slot) -> Ans
-    requires { ⌜ Room 3 (now s) at slot × (quote (byteAt (now s) at) ≡ true) ⌝ }
-    ensures { λ r. ⌜ Made r (now (s .entry)) quoted at 2 slot 0 (now (t .entry)) (now (t .exit)) ⌝ }
+    requires { ⌜ Room 3 (now s) at (seat slot) × (quote (byteAt (now s) at) ≡ true) ⌝ }
+    ensures { λ r. ⌜ Made r (now (s .entry)) quoted at 2 (seat slot) 0 (now (t .entry)) (now (t .exit)) ⌝ }
 {
     let r = text::read_jsx_string_literal(s, at);
     let Ans::Got(e, _) = r else {
@@ -148,8 +149,8 @@ fn closes(s: &[u8], c: usize, a: usize, n: usize) -> bool
 // A closing tag at c that repeats a one-part name byte for byte: its record and its name's, where a table is lent.
 fn close_same(t: &mut [u32], s: &[u8], name: Opened, c: usize, slot: Slot) -> Ans
     requires { ⌜ Opening (now s) name × (name .count ≡ 1)
-        × Closes (now s) c (name .start) (name .end - name .start) × Room 3 (now s) c slot ⌝ }
-    ensures { λ r. ⌜ MadeOf r (closingNamed (now (s .entry)) name c) (now (s .entry)) c 3 slot 0
+        × Closes (now s) c (name .start) (name .end - name .start) × Room 3 (now s) c (seat slot) ⌝ }
+    ensures { λ r. ⌜ MadeOf r (closingNamed (now (s .entry)) name c) (now (s .entry)) c 3 (seat slot) 0
         (now (t .entry)) (now (t .exit)) ⌝ }
 {
     let e = c + 2 + (name.end - name.start);
@@ -186,8 +187,8 @@ fn close_open(s: &[u8], c: usize) -> Ans
 
 // The closing tag at c from its name on, at q, and the verdict: 7, or its record and its name's.
 fn close_named(t: &mut [u32], s: &[u8], name: Opened, c: usize, q: usize, slot: Slot) -> Ans
-    requires { ⌜ Opening (now s) name × Room 3 (now s) c slot × Slashed (now s) c q ⌝ }
-    ensures { λ r. ⌜ MadeOf r (closingNamed (now (s .entry)) name c) (now (s .entry)) c 3 slot 0
+    requires { ⌜ Opening (now s) name × Room 3 (now s) c (seat slot) × Slashed (now s) c q ⌝ }
+    ensures { λ r. ⌜ MadeOf r (closingNamed (now (s .entry)) name c) (now (s .entry)) c 3 (seat slot) 0
         (now (t .entry)) (now (t .exit)) ⌝ }
 {
     let i = table::start(t.len(), ROW_WORDS);
@@ -218,8 +219,8 @@ fn close_named(t: &mut [u32], s: &[u8], name: Opened, c: usize, q: usize, slot: 
 
 // A closing tag at c, read part by part, and the verdict: 9 where it has no name.
 fn close_read(t: &mut [u32], s: &[u8], name: Opened, c: usize, slot: Slot) -> Ans
-    requires { ⌜ Opening (now s) name × Room 3 (now s) c slot ⌝ }
-    ensures { λ r. ⌜ MadeOf r (closingNamed (now (s .entry)) name c) (now (s .entry)) c 3 slot 0
+    requires { ⌜ Opening (now s) name × Room 3 (now s) c (seat slot) ⌝ }
+    ensures { λ r. ⌜ MadeOf r (closingNamed (now (s .entry)) name c) (now (s .entry)) c 3 (seat slot) 0
         (now (t .entry)) (now (t .exit)) ⌝ }
 {
     let r = close_open(s, c);
@@ -235,8 +236,8 @@ fn close_read(t: &mut [u32], s: &[u8], name: Opened, c: usize, slot: Slot) -> An
 // The closing tag at c of an element, and the verdict on it. A name of one record is first looked for as it stands in
 // the opening tag.
 pub fn close(t: &mut [u32], s: &[u8], name: Opened, c: usize, slot: Slot) -> Ans
-    requires { ⌜ Opening (now s) name × Room 3 (now s) c slot ⌝ }
-    ensures { λ r. ⌜ MadeOf r (closingNamed (now (s .entry)) name c) (now (s .entry)) c 3 slot 0
+    requires { ⌜ Opening (now s) name × Room 3 (now s) c (seat slot) ⌝ }
+    ensures { λ r. ⌜ MadeOf r (closingNamed (now (s .entry)) name c) (now (s .entry)) c 3 (seat slot) 0
         (now (t .entry)) (now (t .exit)) ⌝ }
 {
     if name.count == 1 {
@@ -257,8 +258,8 @@ fn close_by_name(
     q: usize,
     slot: Slot,
 ) -> Ans
-    requires { ⌜ (at ≤ e) × Room 3 (now s) c slot × Slashed (now s) c q ⌝ }
-    ensures { λ r. ⌜ MadeOf r (closing (now (s .entry)) at (e - at) noName c) (now (s .entry)) c 3 slot 0
+    requires { ⌜ (at ≤ e) × Room 3 (now s) c (seat slot) × Slashed (now s) c q ⌝ }
+    ensures { λ r. ⌜ MadeOf r (closing (now (s .entry)) at (e - at) noName c) (now (s .entry)) c 3 (seat slot) 0
         (now (t .entry)) (now (t .exit)) ⌝ }
 {
     let r = name::parse_jsx_element_name(t, s, q, slot.inside());
@@ -274,8 +275,8 @@ fn close_by_name(
 
 // The closing tag at c of a fragment whose opening tag is from `at` to e, and the verdict on it.
 pub fn close_fragment(t: &mut [u32], s: &[u8], at: usize, e: usize, c: usize, slot: Slot) -> Ans
-    requires { ⌜ (at ≤ e) × Room 3 (now s) c slot ⌝ }
-    ensures { λ r. ⌜ MadeOf r (closing (now (s .entry)) at (e - at) noName c) (now (s .entry)) c 3 slot 0
+    requires { ⌜ (at ≤ e) × Room 3 (now s) c (seat slot) ⌝ }
+    ensures { λ r. ⌜ MadeOf r (closing (now (s .entry)) at (e - at) noName c) (now (s .entry)) c 3 (seat slot) 0
         (now (t .entry)) (now (t .exit)) ⌝ }
 {
     let r = close_open(s, c);

@@ -27,13 +27,12 @@ use Rattle.lex.specs.declared.Ans.the-variants.{Got}
 use Rattle.lex.proofs.Laws as Lex
 use Rattle.lex.proofs.Bare.{bare, bare-blanks, count-flat, flat-got}
 use Rattle.blank.proofs.Laws.{pass-is}
-use Rattle.table.specs.declared.Slot.{Slot}
-use Rattle.table.specs.Slot.{slotInside, rowsFrom}
+use Rattle.table.specs.Slot.{Seat, seatInside, rowsFrom}
 use Rattle.table.specs.Contract.{Stored}
 use Rattle.table.specs.Reader.{Room, Made}
 use Rattle.table.proofs.Laws.{leaf-row}
 use Rattle.table.proofs.Asked.{inside-fits}
-use Rattle.table.proofs.Upto.{Upto, upto-begin, upto-count, upto-more, same-slot, last-leaf, leaf-made, node-made}
+use Rattle.table.proofs.Upto.{Upto, upto-begin, upto-count, upto-more, same-seat, last-leaf, leaf-made, node-made}
 
 -- ---- a text
 
@@ -47,7 +46,7 @@ bare-inside = refl
 
 -- It was read, and its row was stored.
 pub text-made : {s : List ℕ} {at e : ℕ} → Past e s text at 1
-    → {q : Slot} {t t′ : List ℕ} {y : ℕ} → Stored 0 q Kind.text at e 0 0 t t′
+    → {q : Seat} {t t′ : List ℕ} {y : ℕ} → Stored 0 q Kind.text at e 0 0 t t′
     → y ≡ e
     → Made (Got y 1) s text at 1 q 0 t t′
 unfolding text
@@ -93,10 +92,10 @@ module _ {s : List ℕ} {at q : ℕ} (v : Past q s pass at 1) where
   none = count-flat (within .0) (flat-got s (suc (length s)) blanks 0 (at + 1) bare-blanks (within .1))
 
   -- The row of what is between them was stored.
-  empty-stored : (j : Slot) {t t₁ : List ℕ}
+  empty-stored : (j : Seat) {t t₁ : List ℕ}
       → at ≤ length s
-      → Stored rowWords (slotInside j) Kind.emptyExpression (at + 1) q 0 0 t t₁
-      → Upto s inBraces at (slotInside j) rowWords t (expect "}") q 1 t₁
+      → Stored rowWords (seatInside j) Kind.emptyExpression (at + 1) q 0 0 t t₁
+      → Upto s inBraces at (seatInside j) rowWords t (expect "}") q 1 t₁
   unfolding before width count records
   empty-stored j {t} i w =
       let far = v .far in
@@ -104,11 +103,11 @@ module _ {s : List ℕ} {at q : ℕ} (v : Past q s pass at 1) where
       let no = none in
       let k : rowWords ≡ rowWords + rowWords * 0 = omega arith in
       upto-count
-      (upto-more (upto-begin inBraces (slotInside j) rowWords t i) {h = expect "}"} before {j = 1}
+      (upto-more (upto-begin inBraces (seatInside j) rowWords t i) {h = expect "}"} before {j = 1}
       up-to-shut (omega arith) (far .1) (omega arith) (omega arith)
       (w .is
-      ∙ ap (sets t rowWords) (leaf-row (within .0) (slotInside j) (at + 1) Kind.emptyExpression q 0 wide none)
-      ∙ (λ y. sets t (k y) (rowsFrom (same-slot (slotInside j) y) at before))))
+      ∙ ap (sets t rowWords) (leaf-row (within .0) (seatInside j) (at + 1) Kind.emptyExpression q 0 wide none)
+      ∙ (λ y. sets t (k y) (rowsFrom (same-seat (seatInside j) y) at before))))
       (omega arith)
 
 -- The `}`: it is read, goes on, and is bytes alone.
@@ -128,11 +127,11 @@ unfolding bare expect need
 bare-shut = refl
 
 -- They were read, and both rows were stored.
-pub empty-made : {s : List ℕ} {at q : ℕ} {j : Slot}
+pub empty-made : {s : List ℕ} {at q : ℕ} {j : Seat}
     → Room 3 s at j
     → Past q s pass at 1
     → byteAt s q ≡ code "}"
-    → {j₁ : Slot} {t t₁ t₂ : List ℕ} {y : ℕ} → j₁ ≡ slotInside j
+    → {j₁ : Seat} {t t₁ t₂ : List ℕ} {y : ℕ} → j₁ ≡ seatInside j
     → Stored rowWords j₁ Kind.emptyExpression (at + 1) q 0 0 t t₁
     → Stored 0 j Kind.container at (q + 1) 0 1 t₁ t₂
     → y ≡ q + 1
@@ -148,9 +147,9 @@ empty-made {s} {at} {q} {j} room v x g w₁ w₂ e =
     (omega arith) w₂ (omega arith))
 
 -- The record that the inner one stands in is within 32 bits.
-pub inside-held : {s : List ℕ} {at : ℕ} {j : Slot}
+pub inside-held : {s : List ℕ} {at : ℕ} {j : Seat}
     → Room 3 s at j
-    → {j₁ : Slot} {n : ℕ} → j₁ ≡ slotInside j
+    → {j₁ : Seat} {n : ℕ} → j₁ ≡ seatInside j
     → n ≡ j₁ .parent
     → n < 2 ^ 32
 inside-held room g e =
@@ -159,6 +158,19 @@ inside-held room g e =
     let here = room .inside in
     rw (e, g) (omega arith)
 
+-- So is its depth.
+pub inside-shallow : {s : List ℕ} {at : ℕ} {j : Seat}
+    → Room 3 s at j
+    → {j₁ : Seat} {n : ℕ} → j₁ ≡ seatInside j
+    → n ≡ j₁ .depth
+    → n < 2 ^ 32
+inside-shallow room g e =
+    let few = room .few in
+    let short = room .short in
+    let here = room .inside in
+    let deep = room .shallow in
+    rw (e, g) (omega arith)
+
 pub ruleset empty-steps = (needs, empty-made)
 
-pub ruleset empty-asked = (needs, inside-fits, inside-held)
+pub ruleset empty-asked = (needs, inside-fits, inside-held, inside-shallow)

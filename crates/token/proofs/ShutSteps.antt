@@ -14,16 +14,15 @@ use Rattle.lex.specs.Contract.{outOf}
 use Rattle.lex.specs.declared.Ans.{Ans}
 use Rattle.lex.specs.declared.Ans.the-variants.{Got, No}
 use Rattle.lex.proofs.Laws as Lex
-use Rattle.table.specs.declared.Slot.{Slot}
-use Rattle.table.specs.Slot.{slotInside, slotBehind, rowsFrom}
-use Rattle.table.specs.Contract.{Start, Words, Stored}
+use Rattle.table.specs.Slot.{Seat, seatInside, seatBehind, rowsFrom}
+use Rattle.table.specs.Contract.{Enterable, Start, Words, Stored}
 use Rattle.table.specs.Reader.{Room, MadeOf}
 use Rattle.table.proofs.Laws.{lent}
 use Rattle.tag.proofs.OpenedSteps.{opening-copy}
 use Rattle.token.specs.Shut.{Shut}
 
 -- A reader that was lent the part from the word k on.
-pub made-of-lent : {r : Ans} {x : Answer} {s : List ℕ} {at j : ℕ} {q : Slot} (t : List ℕ) {u : List ℕ} {k a : ℕ}
+pub made-of-lent : {r : Ans} {x : Answer} {s : List ℕ} {at j : ℕ} {q : Seat} (t : List ℕ) {u : List ℕ} {k a : ℕ}
     → Start (length t) k a
     → MadeOf r x s at j q 0 (midOf a (length t - a) t) u
     → MadeOf r x s at j q k t (putMid a (length t - a) t u)
@@ -35,13 +34,13 @@ made-of-lent {x = x} {at = at} {q = q} t st l = record {
 
 -- ---- the closing tag, and then the row
 
-module _ {s : List ℕ} {c : ℕ} (v : ℕ) (j : Slot) (t : List ℕ) {k i : ℕ} (st : Start (length t) k i)
+module _ {s : List ℕ} {c : ℕ} (v : ℕ) (j : Seat) (t : List ℕ) {k i : ℕ} (st : Start (length t) k i)
     (f : k ≡ rowWords * (v + 1))
-    {j₁ : Slot} (g₁ : j₁ ≡ slotInside j) {j₂ : Slot} (g₂ : j₂ ≡ slotBehind v j₁)
+    {j₁ : Seat} (g₁ : j₁ ≡ seatInside j) {j₂ : Seat} (g₂ : j₂ ≡ seatBehind v j₁)
     {r : Ans} {x : Answer} {u : List ℕ} (l : MadeOf r x s c 3 j₂ 0 (midOf i (length t - i) t) u) where
-  closing-made : MadeOf r x s c 3 (slotBehind v (slotInside j)) (rowWords * (v + 1)) t (putMid i (length t - i) t u)
+  closing-made : MadeOf r x s c 3 (seatBehind v (seatInside j)) (rowWords * (v + 1)) t (putMid i (length t - i) t u)
   closing-made =
-      let slot : j₂ ≡ slotBehind v (slotInside j) = g₂ ∙ ap (slotBehind v) g₁ in
+      let slot : j₂ ≡ seatBehind v (seatInside j) = g₂ ∙ ap (seatBehind v) g₁ in
       rw (f, slot) at (made-of-lent t st l)
 
   -- The tag is refused.
@@ -82,9 +81,18 @@ pub ruleset shut-steps = (needs, shut-stops, shut-made)
 
 -- ---- what the calls ask
 
-module _ {s : List ℕ} {c : ℕ} (v : ℕ) (j : Slot) (room : Room 3 s c (slotBehind v (slotInside j))) where
-  -- The slot behind what is there so far stays within 32 bits,
-  pub behind-fits : {j₁ : Slot} {n m : ℕ} → j₁ ≡ slotInside j → n ≡ j₁ .number → m ≡ v → n + m < 2 ^ 32
+module _ {s : List ℕ} {c : ℕ} (v : ℕ) (j : Seat) (room : Room 3 s c (seatBehind v (seatInside j))) where
+  -- The record may be entered;
+  pub shut-enter : {j₁ : Seat} → j₁ ≡ j → Enterable j₁
+  shut-enter g =
+      let few = room .few in
+      let here = room .inside in
+      let short = room .short in
+      let deep = room .shallow in
+      rw g (record { small = omega arith; shallow = omega arith })
+
+  -- the seat behind what is there so far stays within 32 bits,
+  pub behind-fits : {j₁ : Seat} {n m : ℕ} → j₁ ≡ seatInside j → n ≡ j₁ .number → m ≡ v → n + m < 2 ^ 32
   behind-fits g e f =
       let few = room .few in
       let here = room .inside in
@@ -92,14 +100,14 @@ module _ {s : List ℕ} {c : ℕ} (v : ℕ) (j : Slot) (room : Room 3 s c (slotB
       rw (e, f, g) (omega arith)
 
   -- and has room for the closing tag.
-  pub shut-room : {j₁ j₂ j₃ : Slot} {u : List ℕ} {y : ℕ} → j₁ ≡ slotInside j → j₂ ≡ slotBehind v j₁
+  pub shut-room : {j₁ j₂ j₃ : Seat} {u : List ℕ} {y : ℕ} → j₁ ≡ seatInside j → j₂ ≡ seatBehind v j₁
       → u ≡ s
       → y ≡ c
       → j₃ ≡ j₂
       → Room 3 u y j₃
-  shut-room g₁ g₂ e f g₃ = rw (e, f, g₃ ∙ g₂ ∙ ap (slotBehind v) g₁) room
+  shut-room g₁ g₂ e f g₃ = rw (e, f, g₃ ∙ g₂ ∙ ap (seatBehind v) g₁) room
 
-  module _ {r : Ans} {x : Answer} {j₂ : Slot} {t u : List ℕ} (l : MadeOf r x s c 3 j₂ 0 t u) {z m : ℕ} (h : r ≡ Got z m)
+  module _ {r : Ans} {x : Answer} {j₂ : Seat} {t u : List ℕ} (l : MadeOf r x s c 3 j₂ 0 t u) {z m : ℕ} (h : r ≡ Got z m)
     where
       -- As many records as there are is a number.
       pub shut-fits : {a b : ℕ} → a ≡ v → b ≡ m → Fits w64 (a + b)
@@ -111,17 +119,18 @@ module _ {s : List ℕ} {c : ℕ} (v : ℕ) (j : Slot) (room : Room 3 s c (slotB
           omega arith
 
       -- The row may be stored.
-      pub shut-words : {at kind extra a y b : ℕ} {j₃ : Slot} → j .parent < 2 ^ 32 → at ≤ c → kind < 3 → extra < 2
+      pub shut-words : {at kind extra a y b : ℕ} {j₃ : Seat} → j .parent < 2 ^ 32 → at ≤ c → kind < 3 → extra < 2
           → j₃ ≡ j
           → a ≡ at
           → y ≡ z
           → b ≡ v + m
           → Words j₃ kind a y extra b
       shut-words p q d₁ d₂ g e f o =
+          let deep = room .shallow in
           let few = room .few in
           let here = room .inside in
           let short = room .short in
           let far = l .far _ _ h in
           rw (g, e, f, o) (omega arith)
 
-pub ruleset shut-asked = (needs, opening-copy, behind-fits, shut-room, shut-fits, shut-words)
+pub ruleset shut-asked = (needs, opening-copy, shut-enter, behind-fits, shut-room, shut-fits, shut-words)

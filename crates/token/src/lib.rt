@@ -13,7 +13,7 @@ ghost use Rattle.jsx.specs.Closing.{noName};
 ghost use Rattle.jsx.specs.Depth.{elementTooDeep};
 ghost use Rattle.jsx.specs.Kind as Kind;
 ghost use Rattle.lex.specs.Contract.{Leaf, Past, nothing};
-ghost use Rattle.table.specs.Slot.{slotInside, slotBehind};
+ghost use Rattle.table.specs.Slot.{seat, seatInside, seatBehind};
 ghost use Rattle.table.specs.Contract.{Words, Stored};
 ghost use Rattle.table.specs.Reader.{Room, Made};
 ghost use Rattle.tag.specs.Token.{goesOn};
@@ -250,8 +250,8 @@ pub fn dot_word(s: &[u8], at: usize) -> Ans
 
 // The row of a record of this kind from `at` to z, with m records below it and 0 for its extra word.
 pub fn put_plain(t: &mut [u32], kind: usize, at: usize, z: usize, m: usize, slot: Slot)
-    requires { ⌜ Words slot kind at z 0 m ⌝ }
-    ensures { λ _. ⌜ Stored 0 slot kind at z 0 m (now (t .entry)) (now (t .exit)) ⌝ }
+    requires { ⌜ Words (seat slot) kind at z 0 m ⌝ }
+    ensures { λ _. ⌜ Stored 0 (seat slot) kind at z 0 m (now (t .entry)) (now (t .exit)) ⌝ }
 {
     table::put_node(
         t,
@@ -268,8 +268,8 @@ pub fn put_plain(t: &mut [u32], kind: usize, at: usize, z: usize, m: usize, slot
 
 // The row of an opening tag from `at` to z, with m records in it, behind that of the element or fragment in the slot.
 pub fn put_opening(t: &mut [u32], at: usize, z: usize, m: usize, slot: Slot)
-    requires { ⌜ Words (slotInside slot) Kind.openingTag at z 0 m ⌝ }
-    ensures { λ _. ⌜ Stored rowWords (slotInside slot) Kind.openingTag at z 0 m (now (t .entry)) (now (t .exit)) ⌝ }
+    requires { ⌜ Words (seatInside (seat slot)) Kind.openingTag at z 0 m ⌝ }
+    ensures { λ _. ⌜ Stored rowWords (seatInside (seat slot)) Kind.openingTag at z 0 m (now (t .entry)) (now (t .exit)) ⌝ }
 {
     table::put_node_at(
         t,
@@ -287,8 +287,8 @@ pub fn put_opening(t: &mut [u32], at: usize, z: usize, m: usize, slot: Slot)
 
 // A text, whose first byte was seen, and its record.
 pub fn text(t: &mut [u32], s: &[u8], at: usize, slot: Slot) -> Ans
-    requires { ⌜ Room 3 (now s) at slot × (inText (byteAt (now s) at) ≡ true) ⌝ }
-    ensures { λ r. ⌜ Made r (now (s .entry)) textRule at 1 slot 0 (now (t .entry)) (now (t .exit)) ⌝ }
+    requires { ⌜ Room 3 (now s) at (seat slot) × (inText (byteAt (now s) at) ≡ true) ⌝ }
+    ensures { λ r. ⌜ Made r (now (s .entry)) textRule at 1 (seat slot) 0 (now (t .entry)) (now (t .exit)) ⌝ }
 {
     let e = text::read_jsx_text(s, at);
     put_plain(t, TEXT, at, e, 0, slot);
@@ -297,8 +297,8 @@ pub fn text(t: &mut [u32], s: &[u8], at: usize, slot: Slot) -> Ans
 
 // Empty braces, whose `}` was seen at q behind the blanks, and their two records.
 pub fn empty_braces(t: &mut [u32], s: &[u8], at: usize, q: usize, slot: Slot) -> Ans
-    requires { ⌜ Room 3 (now s) at slot × Past q (now s) pass at 1 × (byteAt (now s) q ≡ 125) ⌝ }
-    ensures { λ r. ⌜ Made r (now (s .entry)) emptyBraces at 2 slot 0 (now (t .entry)) (now (t .exit)) ⌝ }
+    requires { ⌜ Room 3 (now s) at (seat slot) × Past q (now s) pass at 1 × (byteAt (now s) q ≡ 125) ⌝ }
+    ensures { λ r. ⌜ Made r (now (s .entry)) emptyBraces at 2 (seat slot) 0 (now (t .entry)) (now (t .exit)) ⌝ }
 {
     table::put_node_at(
         t,
@@ -318,9 +318,9 @@ pub fn empty_braces(t: &mut [u32], s: &[u8], at: usize, q: usize, slot: Slot) ->
 
 // The closing tag at c of an element that has v records below it so far, and then the element's own record.
 pub fn shut(t: &mut [u32], s: &[u8], name: Opened, c: usize, v: usize, slot: Slot) -> Ans
-    requires { ⌜ Opening (now s) name × Room 3 (now s) c (slotBehind v (slotInside slot)) × (slot .parent < 2 ^ 32)
+    requires { ⌜ Opening (now s) name × Room 3 (now s) c (seatBehind v (seatInside (seat slot))) × (seat slot .parent < 2 ^ 32)
         × (name .at ≤ c) ⌝ }
-    ensures { λ r. ⌜ Shut r (closingNamed (now (s .entry)) name c) (now (s .entry)) Kind.element 1 (name .at) c v slot
+    ensures { λ r. ⌜ Shut r (closingNamed (now (s .entry)) name c) (now (s .entry)) Kind.element 1 (name .at) c v (seat slot)
         (now (t .entry)) (now (t .exit)) ⌝ }
 {
     let i = table::start(t.len(), ROW_WORDS * (v + 1));
@@ -353,8 +353,8 @@ pub fn shut_fragment(
     v: usize,
     slot: Slot,
 ) -> Ans
-    requires { ⌜ (at ≤ e) × (at ≤ c) × Room 3 (now s) c (slotBehind v (slotInside slot)) × (slot .parent < 2 ^ 32) ⌝ }
-    ensures { λ r. ⌜ Shut r (closing (now (s .entry)) at (e - at) noName c) (now (s .entry)) Kind.fragment 0 at c v slot
+    requires { ⌜ (at ≤ e) × (at ≤ c) × Room 3 (now s) c (seatBehind v (seatInside (seat slot))) × (seat slot .parent < 2 ^ 32) ⌝ }
+    ensures { λ r. ⌜ Shut r (closing (now (s .entry)) at (e - at) noName c) (now (s .entry)) Kind.fragment 0 at c v (seat slot)
         (now (t .entry)) (now (t .exit)) ⌝ }
 {
     let i = table::start(t.len(), ROW_WORDS * (v + 1));

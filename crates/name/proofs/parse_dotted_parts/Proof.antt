@@ -1,11 +1,12 @@
 use Prim.Native.Nat.{_-_}
 use lib.ListN.{length}
+use Rattle.table.specs.Slot.{seat}
 use Rattle.name.proofs.DottedSteps.{Dotted, dotted-asked, dotted-steps}
 use Rattle.name.proofs.parse_dotted_parts.Statement.{statement}
 use Rattle.name.proofs.parse_dotted_parts.Tie as tie
 
 abbrev Inv-loop : tie.InvT-loop
-Inv-loop t₀ s at slot p₀ m₀ t p m = Dotted s at slot t₀ p m t
+Inv-loop t₀ s at slot p₀ m₀ t p m = Dotted s at (seat slot) t₀ p m t
 
 abbrev μ-loop : tie.MeasureT-loop
 μ-loop t₀ s at slot p₀ m₀ t p m = length s - p

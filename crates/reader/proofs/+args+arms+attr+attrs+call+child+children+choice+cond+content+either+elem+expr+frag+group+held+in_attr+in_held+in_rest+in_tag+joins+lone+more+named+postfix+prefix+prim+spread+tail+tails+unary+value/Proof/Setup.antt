@@ -117,6 +117,7 @@ use Rattle.number.proofs.read_number.Reads as read-number-reads
 use Rattle.reader.proofs.plain.Reads as plain-reads
 use Rattle.reader.proofs.refusal.Reads as refusal-reads
 use Rattle.refused.proofs.primary_word.Reads as primary-word-reads
+use Rattle.table.specs.Slot.{seat}
 use Rattle.table.proofs.Slot.behind.Reads as behind-reads
 use Rattle.table.proofs.Slot.inside.Reads as inside-reads
 use Rattle.table.proofs.start.Reads as start-reads
@@ -438,31 +439,31 @@ abbrev pub value-below : ℕ → In 2 value-kinds.ps
 value-below t = and 2 value-kinds.ps (falls 2 value-kinds.ps _<_ μ-value t) value.Pre
 
 abbrev pub attrs-Inv-loop : attrs-lts.InvT-loop
-attrs-Inv-loop t₀ s at d slot p₀ m₀ t p m = Loop 2 s (attributes (within d)) at slot t₀ p m t
+attrs-Inv-loop t₀ s at d slot p₀ m₀ t p m = Loop 2 s (attributes (within d)) at (seat slot) t₀ p m t
 
 abbrev pub attrs-μ-loop : attrs-lts.MeasureT-loop
 attrs-μ-loop t₀ s at d slot p₀ m₀ t p m = length s - p
 
 abbrev pub children-Inv-loop : children-lts.InvT-loop
-children-Inv-loop t₀ s at d slot p₀ m₀ t p m = Loop 3 s (childrenRule (within d)) at slot t₀ p m t
+children-Inv-loop t₀ s at d slot p₀ m₀ t p m = Loop 3 s (childrenRule (within d)) at (seat slot) t₀ p m t
 
 abbrev pub children-μ-loop : children-lts.MeasureT-loop
 children-μ-loop t₀ s at d slot p₀ m₀ t p m = length s - p
 
 abbrev pub joins-Inv-loop : joins-lts.InvT-loop
-joins-Inv-loop t₀ s at d slot p₀ m₀ t p m = Loop 3 s (many (operandTurn (within d))) at slot t₀ p m t
+joins-Inv-loop t₀ s at d slot p₀ m₀ t p m = Loop 3 s (many (operandTurn (within d))) at (seat slot) t₀ p m t
 
 abbrev pub joins-μ-loop : joins-lts.MeasureT-loop
 joins-μ-loop t₀ s at d slot p₀ m₀ t p m = length s - p
 
 abbrev pub more-Inv-loop : more-lts.InvT-loop
-more-Inv-loop t₀ s at d slot p₀ m₀ t p m = Loop 3 s (many (argumentTurn (within d))) at slot t₀ p m t
+more-Inv-loop t₀ s at d slot p₀ m₀ t p m = Loop 3 s (many (argumentTurn (within d))) at (seat slot) t₀ p m t
 
 abbrev pub more-μ-loop : more-lts.MeasureT-loop
 more-μ-loop t₀ s at d slot p₀ m₀ t p m = length s - p
 
 abbrev pub tails-Inv-loop : tails-lts.InvT-loop
-tails-Inv-loop t₀ s at d slot p₀ m₀ t p m = Loop 3 s (many (postfixTurn (within d))) at slot t₀ p m t
+tails-Inv-loop t₀ s at d slot p₀ m₀ t p m = Loop 3 s (many (postfixTurn (within d))) at (seat slot) t₀ p m t
 
 abbrev pub tails-μ-loop : tails-lts.MeasureT-loop
 tails-μ-loop t₀ s at d slot p₀ m₀ t p m = length s - p
