@@ -19,7 +19,8 @@ use Rattle.stage.specs.Call.{Numbered, Reads}
 use Rattle.stage.specs.Demand2.{WritesWhatIsRead}
 use Rattle.stage.proofs.Demand2.{stage-writes, run-writes, reads-fit}
 use Rattle.put.specs.Text.{Prints}
-use Rattle.print.specs.Answer.{Small, most}
+use Rattle.rules.specs.Record.{rowWords}
+use Rattle.print.specs.Answer.{Small, textRoom, most}
 use Rattle.batch.specs.Item.{reading}
 
 -- ---- the read of an item
@@ -45,7 +46,7 @@ letter-writes false = run-writes
 
 module _ (letter : ℕ) {s t t′ : List ℕ} {x r : Reply} (v : Reads (reading letter) s t r t′) where
   -- Its count is a word,
-  pub answer-small : length t ≤ 786_432 → x ≡ r → Small x
+  pub answer-small : length t ≤ rowWords * 131_072 → x ≡ r → Small x
   unfolding holds reading
   answer-small h e = rw e (by r v)
     where
@@ -77,7 +78,7 @@ front-fits {e} {k} {u} {o} {o′} x h =
 
 pub ruleset front-asked = (needs, front-fits)
 
-module _ {x : Reply} (o : List ℕ) (room : 150_552 ≤ length o) where
+module _ {x : Reply} (o : List ℕ) (room : textRoom 1_024 ≤ length o) where
   -- An answer of few rows has room,
   pub accepted-fits : {m : ℕ} → x ≡ Accepted m → m ≤ 1_024 → most x ≤ length o
   accepted-fits e h = rw e (omega arith)

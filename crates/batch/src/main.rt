@@ -2,15 +2,18 @@
 // run, its length in 4 bytes, low byte first, and its bytes. Each answer has the form that `lorikvar` prints. An item
 // of more than 1,048,576 bytes is `no 1 0 0 0 0`, and its bytes are passed over; a table has 131,072 records. A wrong
 // first byte, or an input that ends inside an item, is `bad item K`, counted from 0, and ends the batch.
-ghost use Prim.Native.Nat.{_≤_, _<_, _^_};
+ghost use Prim.Native.Nat.{_*_, _≤_, _<_, _^_};
 ghost use lib.ListN.{length};
 ghost use mathlib.Core.Path.{_≡_};
+ghost use Rattle.rules.specs.Record.{rowWords};
 ghost use Rattle.stage.specs.Call.{Numbered, Reads};
-ghost use Rattle.print.specs.Answer.{most, Small};
+ghost use Rattle.print.specs.Answer.{textRoom, most, Small};
 ghost use Rattle.batch.specs.Item.{reading, lengthOf};
 use lex::refusal::TOO_LONG;
 use libc::STDIN_FILENO;
 use libc::STDOUT_FILENO;
+use put::OK_BYTES;
+use put::ROW_BYTES;
 use stage::Reply;
 
 const STAGE: u8 = b's';
@@ -20,8 +23,10 @@ const RUN: u8 = b'r';
 // The bytes in front of an item: its letter and its length.
 const HEAD_BYTES: usize = 5;
 
-// As many rows are printed at a time.
+// As many rows are printed at a time, and have room in so many bytes.
 const ROWS: usize = 1_024;
+
+const TEXT: usize = OK_BYTES + ROW_BYTES * ROWS;
 
 // No input has so many items.
 const ITEMS: u64 = 4_611_686_018_427_387_904;
@@ -110,7 +115,7 @@ fn rows_at_once(left: usize) -> usize
 
 // Writes the lines of m records, some at a time.
 fn write_rows(out: &mut [u8], t: &[u32], m: usize)
-    requires { ⌜ (150_552 ≤ length (now out)) × (m < 2 ^ 32) ⌝ }
+    requires { ⌜ (textRoom 1_024 ≤ length (now out)) × (m < 2 ^ 32) ⌝ }
 {
     let mut k = 0;
     while k < m {
@@ -131,7 +136,7 @@ fn write_short(out: &mut [u8], r: Reply, t: &[u32])
 
 // Writes an answer of so many rows that they go out by parts.
 fn write_long(out: &mut [u8], m: usize, t: &[u32])
-    requires { ⌜ (150_552 ≤ length (now out)) × (m < 2 ^ 32) ⌝ }
+    requires { ⌜ (textRoom 1_024 ≤ length (now out)) × (m < 2 ^ 32) ⌝ }
 {
     let e = put::put_ok(out, 0, m);
     write_front(out, e);
@@ -140,7 +145,7 @@ fn write_long(out: &mut [u8], m: usize, t: &[u32])
 
 // Writes an answer.
 fn write_answer(out: &mut [u8], r: Reply, t: &[u32])
-    requires { ⌜ (150_552 ≤ length (now out)) × Numbered r × Small r ⌝ }
+    requires { ⌜ (textRoom 1_024 ≤ length (now out)) × Numbered r × Small r ⌝ }
 {
     match r {
         Reply::Accepted(m) => {
@@ -156,7 +161,7 @@ fn write_answer(out: &mut [u8], r: Reply, t: &[u32])
 
 // Answers an item whose bytes are at the front of `item`, unless it is too long.
 fn answer_item(letter: u8, n: usize, item: &[u8], t: &mut [u32], out: &mut [u8])
-    requires { ⌜ (150_552 ≤ length (now out)) × (length (now t) ≤ 786_432) ⌝ }
+    requires { ⌜ (textRoom 1_024 ≤ length (now out)) × (length (now t) ≤ rowWords * 131_072) ⌝ }
 {
     if item.len() < n {
         write_answer(out, Reply::Refused(TOO_LONG, 0, 0, 0, 0), t);
@@ -175,7 +180,7 @@ fn write_bad(k: u64) {
 
 // Item after item, up to the end of the input or a bad one.
 fn answer_all(item: &mut [u8], t: &mut [u32], out: &mut [u8])
-    requires { ⌜ (1 ≤ length (now item)) × (150_552 ≤ length (now out)) × (length (now t) ≤ 786_432) ⌝ }
+    requires { ⌜ (1 ≤ length (now item)) × (textRoom 1_024 ≤ length (now out)) × (length (now t) ≤ rowWords * 131_072) ⌝ }
 {
     let mut k = 0;
     while k < ITEMS {
@@ -203,6 +208,6 @@ fn answer_all(item: &mut [u8], t: &mut [u32], out: &mut [u8])
 fn main() {
     let mut item = room::input_room();
     let mut t = room::table_room();
-    let mut out = [0u8; 150_552];
+    let mut out = [0u8; TEXT];
     answer_all(&mut item, &mut t, &mut out);
 }

@@ -1,10 +1,10 @@
 // What `explain` tells of some stages: each refusal, places on several lines, tabs, wide characters, long lines, trees.
 use libc::STDOUT_FILENO;
+use table::ROW_WORDS;
 
 fn show(s: &[u8]) {
-    let mut t = [0u32; 768];
-    let mut depths = [0u32; 128];
-    tell::tell(s, &mut t, &mut depths);
+    let mut t = [0u32; ROW_WORDS * 128];
+    tell::tell(s, &mut t);
     io::write_all(STDOUT_FILENO, b"\n");
 }
 

@@ -7,7 +7,7 @@ use borrow.Author.Needs.{needs}
 use borrow.Author.Tests.{ne-eqb}
 use Rattle.jsx.specs.Table.{Outcome, accepted, refused}
 use Rattle.jsx.specs.Program.{rowLines, printed}
-use Rattle.put.specs.Text.{Prints, okLine, noLine}
+use Rattle.put.specs.Text.{Prints, rowBytes, okLine, noLine}
 use Rattle.put.proofs.Steps.{then, said}
 use Rattle.stage.specs.declared.Reply.{Reply}
 use Rattle.stage.specs.declared.Reply.the-variants.{Accepted, Refused}
@@ -27,7 +27,7 @@ refused-is n a b c d t h = let e = ne-eqb n 0 (λ e. absurd (omega arith)) in rw
 -- The count and the rows.
 pub answer-rows : (t : List ℕ) {x : Reply} {m m₁ l k p r at : ℕ} {o o₁ o₂ : List ℕ} → x ≡ Accepted m
     → Prints p at 24 (okLine m₁) o o₁
-    → Prints r p (147 * l) (rowLines t l k) o₁ o₂
+    → Prints r p (rowBytes * l) (rowLines t l k) o₁ o₂
     → m₁ ≡ m
     → l ≡ m
     → k ≡ 0
@@ -59,7 +59,7 @@ module _ {x : Reply} {m : ℕ} (v : Small x) (h : x ≡ Accepted m) where
 
   -- and its text ends at a number.
   pub rows-room : {at p y n : ℕ} {u o o₁ : List ℕ} → at < 2 ^ 60 → Prints p at 24 u o o₁ → y ≡ p → n ≡ m
-      → y + 147 * n < 2 ^ 62
+      → y + rowBytes * n < 2 ^ 62
   rows-room i x e f = let w : m < 2 ^ 32 = subst Small h v in let z = x .near in omega arith
 
 pub ruleset answer-steps = (needs, answer-rows, answer-no)

@@ -19,7 +19,7 @@ use Rattle.stage.specs.declared.Reply.the-variants.{Accepted, Refused}
 use Rattle.stage.specs.Call.{outcome, Reads}
 use Rattle.stage.proofs.Demand2.{stage-writes, reads-fit}
 use Rattle.put.specs.Text.{Prints, noLine}
-use Rattle.print.specs.Answer.{Whole, most, Small}
+use Rattle.print.specs.Answer.{Whole, textRoom, most, Small}
 use Rattle.print.proofs.Steps.{refused-is}
 
 -- A text that fits, put at the front, is the front.
@@ -39,7 +39,7 @@ fronted {r} {k} {u} {o} {o′} x h =
     }
 
 -- An input that is too long for the program.
-pub whole-long : (s : List ℕ) {r : ℕ} {o o′ : List ℕ} → 301_164 ≤ length o → 65_536 < length s
+pub whole-long : (s : List ℕ) {r : ℕ} {o o′ : List ℕ} → textRoom 2_048 ≤ length o → 65_536 < length s
     → Prints r 0 108 (noLine 1 0 0 0 0) o o′
     → Whole r (output s) o′
 unfolding output read readInto programLimits
@@ -62,7 +62,7 @@ unfolding programTable holds
 program-holds = ap (λ (n : ℕ). n / rowWords) (length-replicate {A = ℕ} (rowWords * 2_048) 0)
 
 abbrev zeros : List ℕ
-zeros = replicate 12_288 0
+zeros = replicate (rowWords * 2_048) 0
 
 zeros-are : zeros ≡ programTable
 unfolding programTable
@@ -80,10 +80,10 @@ module _ {s t t′ : List ℕ} {r : Reply} (z : t ≡ zeros) (v : Reads stage s 
           omega arith
       by (Refused n a b c d) w = tt
 
-  few : most r ≤ 301_164
+  few : most r ≤ textRoom 2_048
   few = by r v
     where
-      by : (r : Reply) → Reads stage s t r t′ → most r ≤ 301_164
+      by : (r : Reply) → Reads stage s t r t′ → most r ≤ textRoom 2_048
       by (Accepted m) w =
           let f = reads-fit stage-writes s t m t′ w in
           let g : holds t ≡ 2_048 = ap holds (z ∙ zeros-are) ∙ program-holds in
@@ -91,7 +91,7 @@ module _ {s t t′ : List ℕ} {r : Reply} (z : t ≡ zeros) (v : Reads stage s 
       by (Refused n a b c d) w = omega arith
 
   -- and the text of the answer is the program's.
-  pub whole-answer : {y : ℕ} {x : Reply} {o o′ : List ℕ} → 301_164 ≤ length o → length s ≤ 65_536
+  pub whole-answer : {y : ℕ} {x : Reply} {o o′ : List ℕ} → textRoom 2_048 ≤ length o → length s ≤ 65_536
       → Prints y 0 (most x) (printed (outcome x t′)) o o′
       → x ≡ r
       → Whole y (output s) o′

@@ -3,6 +3,7 @@ use Prim.Native.Nat.{ℕ, _+_, _*_, _≤_, _<_, _^_}
 use mathlib.Core.Path.{_≡_}
 use mathlib.Core.List.{List}
 use lib.ListN.{length, take}
+use Rattle.put.specs.Text.{rowBytes}
 use Rattle.stage.specs.declared.Reply.{Reply}
 use Rattle.stage.specs.declared.Reply.the-variants.{Accepted, Refused}
 
@@ -12,9 +13,13 @@ pub record Whole (r : ℕ) (text : List ℕ) (out : List ℕ) : Type 0 where
   pub counts : r ≡ length (take r out)
   pub is : take r out ≡ text
 
+-- The most bytes of an acceptance's text, by its records.
+abbrev pub textRoom : (records : ℕ) → ℕ
+textRoom m = 24 + rowBytes * m
+
 -- The most bytes of an answer's text.
 abbrev pub most : Reply → ℕ
-most (Accepted m) = 24 + 147 * m
+most (Accepted m) = textRoom m
 most (Refused n a b c d) = 108
 
 -- A record's number is a word.

@@ -4,14 +4,21 @@ ghost use lib.ListN.{length};
 ghost use Rattle.jsx.specs.Program.{printed, output};
 ghost use Rattle.stage.specs.Call.{outcome, Numbered};
 ghost use Rattle.put.specs.Text.{Prints};
-ghost use Rattle.print.specs.Answer.{Whole, most, Small};
+ghost use Rattle.print.specs.Answer.{Whole, textRoom, most, Small};
 use lex::refusal::TOO_LONG;
+use put::OK_BYTES;
+use put::ROW_BYTES;
 use stage::Reply;
+use table::ROW_WORDS;
 
-// The most bytes of the program's input, and the words of its table.
+// The most bytes of the program's input, the words of its table, and the most bytes of its output.
 pub const PROGRAM_BYTES: usize = 65_536;
 
-const PROGRAM_WORDS: usize = 12_288;
+const PROGRAM_RECORDS: usize = 2_048;
+
+const PROGRAM_WORDS: usize = ROW_WORDS * PROGRAM_RECORDS;
+
+pub const PROGRAM_TEXT: usize = OK_BYTES + ROW_BYTES * PROGRAM_RECORDS;
 
 // A whole answer: a refusal's line, or the count and the rows.
 pub fn put_answer(out: &mut [u8], at: usize, r: Reply, t: &[u32]) -> usize
@@ -29,7 +36,7 @@ pub fn put_answer(out: &mut [u8], at: usize, r: Reply, t: &[u32]) -> usize
 
 // The program's whole output for an input, at the front of the buffer.
 pub fn program_text(s: &[u8], out: &mut [u8]) -> usize
-    requires { ⌜ 301_164 ≤ length (now out) ⌝ }
+    requires { ⌜ textRoom 2_048 ≤ length (now out) ⌝ }
     ensures { λ r. ⌜ Whole r (output (now (s .entry))) (now (out .exit)) ⌝ }
 {
     if PROGRAM_BYTES < s.len() {

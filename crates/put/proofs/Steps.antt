@@ -15,7 +15,7 @@ use Rattle.jsx.specs.Byte.{bytesOf}
 use Rattle.jsx.specs.Table.{missing, tableWord}
 use Rattle.jsx.specs.Program.{decimalUpTo, decimal, field, parentField, rowLine, rowLines}
 use Rattle.table.proofs.Laws.{sets-append}
-use Rattle.put.specs.Text.{Prints, fieldAt, spanFields, treeFields, okLine, noLine}
+use Rattle.put.specs.Text.{Prints, fieldAt, spanFields, treeFields, okLine, noLine, rowBytes}
 
 -- ---- any texts
 
@@ -149,21 +149,26 @@ module _ (t : List ℕ) (k : ℕ) {p q r at k₁ k₂ : ℕ} {o o₁ o₂ o₃ :
   unfolding spanFields
   span-put x y z e₁ e₂ = said (then (then x y) z) (rw (e₁, e₂)) (omega arith)
 
-  -- Parent, `after` and extra.
-  pub tree-put : {w v k₃ : ℕ} → w ≡ getD t k₃ 0 → Prints p at 21 (parentField v) o o₁
+  -- Parent, `after`, extra and depth.
+  pub tree-put : {w v k₃ k₄ z : ℕ} {o₄ : List ℕ} → w ≡ getD t k₃ 0 → Prints p at 21 (parentField v) o o₁
       → Prints q p 21 (fieldAt t k₁) o₁ o₂
       → Prints r q 21 (fieldAt t k₂) o₂ o₃
+      → Prints z r 21 (fieldAt t k₄) o₃ o₄
       → v ≡ w
       → k₃ ≡ k + 3
       → k₁ ≡ k + 4
       → k₂ ≡ k + 5
-      → Prints r at 63 (treeFields t k) o o₃
+      → k₄ ≡ k + 6
+      → Prints z at 84 (treeFields t k) o o₄
   unfolding treeFields
-  tree-put e x y z f e₃ e₁ e₂ = said (then (then x y) z) (rw (f, e, e₃, e₁, e₂)) (omega arith)
+  tree-put e x y z u f e₃ e₁ e₂ e₄ = said (then (then (then x y) z) u) (rw (f, e, e₃, e₁, e₂, e₄)) (omega arith)
 
--- Three texts behind another.
+-- Three texts behind another, and four.
 three-behind : (d a b c : List ℕ) → d ++ (a ++ b ++ c) ≡ d ++ a ++ b ++ c
 three-behind d a b c = sym (append-assoc d (a ++ b) c) ∙ ap (λ (l : List ℕ). l ++ c) (sym (append-assoc d a b))
+
+four-behind : (d a b c e : List ℕ) → d ++ (a ++ b ++ c ++ e) ≡ d ++ a ++ b ++ c ++ e
+four-behind d a b c e = sym (append-assoc d (a ++ b ++ c) e) ∙ ap (λ (l : List ℕ). l ++ e) (three-behind d a b c)
 
 -- A row of fields is the definition's line.
 row-is : (t : List ℕ) (k : ℕ)
@@ -173,37 +178,37 @@ row-is t k =
     let z : rowWords * k ≡ rowWords * k + 0 = omega arith in
     let f : ℕ → List ℕ = λ i. fieldAt t (rowWords * k + i) in
     let par = parentField (getD t (rowWords * k + 3) 0) in
-    ap (λ (l : List ℕ). l ++ (par ++ f 4 ++ f 5) ++ (10 ∷ []))
+    ap (λ (l : List ℕ). l ++ (par ++ f 4 ++ f 5 ++ f 6) ++ (10 ∷ []))
     (three-behind (decimal k) (fieldAt t (rowWords * k)) (f 1) (f 2) ∙ (λ i. decimal k ++ fieldAt t (z i) ++ f 1 ++ f 2))
-    ∙ ap (λ (l : List ℕ). l ++ (10 ∷ [])) (three-behind (decimal k ++ f 0 ++ f 1 ++ f 2) par (f 4) (f 5))
+    ∙ ap (λ (l : List ℕ). l ++ (10 ∷ [])) (four-behind (decimal k ++ f 0 ++ f 1 ++ f 2) par (f 4) (f 5) (f 6))
 
 -- The line of a record.
 pub row-put : (t : List ℕ) (k : ℕ) {p q e r at i j : ℕ} {o o₁ o₂ o₃ o₄ : List ℕ} → Prints p at 20 (decimal k) o o₁
     → Prints q p 63 (spanFields t i) o₁ o₂
-    → Prints e q 63 (treeFields t j) o₂ o₃
+    → Prints e q 84 (treeFields t j) o₂ o₃
     → Prints r e 1 (10 ∷ []) o₃ o₄
     → i ≡ rowWords * k
     → j ≡ rowWords * k
-    → Prints r at 147 (rowLine t k) o o₄
+    → Prints r at rowBytes (rowLine t k) o o₄
 row-put t k x y z w f g = said (then (then (then x y) z) w) (rw (f, g) (row-is t k)) (omega arith)
 
 -- No record.
 pub rows-none : (t : List ℕ) {left : ℕ} (at k : ℕ) (o : List ℕ) → left ≡ 0
-    → Prints at at (147 * left) (rowLines t left k) o o
+    → Prints at at (rowBytes * left) (rowLines t left k) o o
 unfolding rowLines
 rows-none t at k o e = rw e (none at o)
 
 -- One record, and those behind it.
 pub rows-more : (t : List ℕ) (k : ℕ) {left p r at l i : ℕ} {o o₁ o₂ : List ℕ} → (left ≡ 0 → ⊥)
-    → Prints p at 147 (rowLine t k) o o₁
-    → Prints r p (147 * l) (rowLines t l i) o₁ o₂
+    → Prints p at rowBytes (rowLine t k) o o₁
+    → Prints r p (rowBytes * l) (rowLines t l i) o₁ o₂
     → l ≡ left - 1
     → i ≡ k + 1
-    → Prints r at (147 * left) (rowLines t left k) o o₂
+    → Prints r at (rowBytes * left) (rowLines t left k) o o₂
 unfolding rowLines
 rows-more t k {left} {p} {r} {at} {l} {i} {o} {o₁} {o₂} h x y e f = by left h e
   where
-    by : (left : ℕ) → (left ≡ 0 → ⊥) → l ≡ left - 1 → Prints r at (147 * left) (rowLines t left k) o o₂
+    by : (left : ℕ) → (left ≡ 0 → ⊥) → l ≡ left - 1 → Prints r at (rowBytes * left) (rowLines t left k) o o₂
     by zero g _ = absurd (g refl)
     by (suc n) _ g = let w : l ≡ n = omega arith in said (then x y) (rw (f, w)) (omega arith)
 

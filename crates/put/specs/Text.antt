@@ -1,9 +1,10 @@
 -- What a writer of text promises, and the pieces of the lines that the definition gives (jsx: Program).
-use Prim.Native.Nat.{ℕ, _+_, _≤_}
+use Prim.Native.Nat.{ℕ, _+_, _*_, _≤_}
 use mathlib.Core.Path.{_≡_}
 use mathlib.Core.List.{List, _++_}
 use lib.ListN.{length, getD}
 use lib.Seq.{sets}
+use Rattle.rules.specs.Record.{rowWords}
 use Rattle.jsx.specs.Byte.{bytesOf}
 use Rattle.jsx.specs.Program.{field, parentField}
 
@@ -21,9 +22,13 @@ fieldAt t k = field (getD t k 0)
 unfoldable pub spanFields : List ℕ → (k : ℕ) → List ℕ
 spanFields t k = fieldAt t k ++ fieldAt t (k + 1) ++ fieldAt t (k + 2)
 
--- parent, `after` and extra.
+-- parent, `after`, extra and depth.
 unfoldable pub treeFields : List ℕ → (k : ℕ) → List ℕ
-treeFields t k = parentField (getD t (k + 3) 0) ++ fieldAt t (k + 4) ++ fieldAt t (k + 5)
+treeFields t k = parentField (getD t (k + 3) 0) ++ fieldAt t (k + 4) ++ fieldAt t (k + 5) ++ fieldAt t (k + 6)
+
+-- The most bytes of a record's line: its number of 20 digits, a field of 21 for each word, and the line's end.
+abbrev pub rowBytes : ℕ
+rowBytes = 20 + 21 * rowWords + 1
 
 -- D: "ok 6".
 unfoldable pub okLine : ℕ → List ℕ

@@ -3,7 +3,7 @@
 ghost use mathlib.Core.List.{[], _∷_, _++_};
 ghost use Prim.Native.Nat.{_+_, _*_, _≤_, _<_, _^_};
 ghost use Rattle.jsx.specs.Program.{decimalUpTo, decimal, field, parentField, rowLine, rowLines};
-ghost use Rattle.put.specs.Text.{Prints, fieldAt, spanFields, treeFields, okLine, noLine};
+ghost use Rattle.put.specs.Text.{Prints, fieldAt, spanFields, treeFields, rowBytes, okLine, noLine};
 use table::MISSING;
 use table::ROW_WORDS;
 
@@ -17,6 +17,11 @@ const ZERO: usize = b'0' as usize;
 
 // The most digits of a number.
 const DIGITS: usize = 20;
+
+// The most bytes of an acceptance's first line, and of a record's: its number, a field for each word, and the line's end.
+pub const OK_BYTES: usize = 24;
+
+pub const ROW_BYTES: usize = DIGITS + (DIGITS + 1) * ROW_WORDS + 1;
 
 // One byte.
 fn put_byte(out: &mut [u8], at: usize, b: usize) -> usize
@@ -101,21 +106,22 @@ fn put_span(out: &mut [u8], at: usize, t: &[u32], k: usize) -> usize
     put_word(out, q, t, k + 2)
 }
 
-// Its last three: parent, `after` and extra.
+// Its last four: parent, `after`, extra and depth.
 fn put_tree(out: &mut [u8], at: usize, t: &[u32], k: usize) -> usize
-    requires { ⌜ (at + 63 < 2 ^ 63) × (k < 2 ^ 40) ⌝ }
-    ensures { λ r. ⌜ Prints r at 63 (treeFields (now (t .entry)) k) (now (out .entry)) (now (out .exit)) ⌝ }
+    requires { ⌜ (at + 84 < 2 ^ 63) × (k < 2 ^ 40) ⌝ }
+    ensures { λ r. ⌜ Prints r at 84 (treeFields (now (t .entry)) k) (now (out .entry)) (now (out .exit)) ⌝ }
 {
     let w = table::table_word(t, k + 3);
     let p = put_parent(out, at, w as usize);
     let q = put_word(out, p, t, k + 4);
-    put_word(out, q, t, k + 5)
+    let e = put_word(out, q, t, k + 5);
+    put_word(out, e, t, k + 6)
 }
 
 // The line of the record k.
 pub fn put_row(out: &mut [u8], at: usize, t: &[u32], k: usize) -> usize
-    requires { ⌜ (at + 147 < 2 ^ 63) × (k < 2 ^ 32) ⌝ }
-    ensures { λ r. ⌜ Prints r at 147 (rowLine (now (t .entry)) k) (now (out .entry)) (now (out .exit)) ⌝ }
+    requires { ⌜ (at + rowBytes < 2 ^ 63) × (k < 2 ^ 32) ⌝ }
+    ensures { λ r. ⌜ Prints r at rowBytes (rowLine (now (t .entry)) k) (now (out .entry)) (now (out .exit)) ⌝ }
 {
     let p = put_decimal(out, at, k);
     let q = put_span(out, p, t, ROW_WORDS * k);
@@ -125,8 +131,8 @@ pub fn put_row(out: &mut [u8], at: usize, t: &[u32], k: usize) -> usize
 
 // The lines of `left` records from k on.
 pub fn put_rows(out: &mut [u8], at: usize, t: &[u32], left: usize, k: usize) -> usize
-    requires { ⌜ (at + 147 * left < 2 ^ 62) × (k + left < 2 ^ 32) ⌝ }
-    ensures { λ r. ⌜ Prints r at (147 * left) (rowLines (now (t .entry)) left k) (now (out .entry)) (now (out .exit)) ⌝ }
+    requires { ⌜ (at + rowBytes * left < 2 ^ 62) × (k + left < 2 ^ 32) ⌝ }
+    ensures { λ r. ⌜ Prints r at (rowBytes * left) (rowLines (now (t .entry)) left k) (now (out .entry)) (now (out .exit)) ⌝ }
 {
     if left == 0 {
         return at;

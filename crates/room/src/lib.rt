@@ -1,6 +1,12 @@
 // Room that the programs lend: an input of any allowed length, and a table.
 ghost use mathlib.Core.Path.{_≡_};
+ghost use Prim.Native.Nat.{_*_};
 ghost use lib.ListN.{length};
+ghost use Rattle.rules.specs.Record.{rowWords};
+use table::ROW_WORDS;
+
+// 131,072 records.
+const TABLE_WORDS: usize = ROW_WORDS * 131_072;
 
 // An input of one byte more than is allowed, so that a longer one is told.
 pub fn input_room() -> [u8; 1_048_577]
@@ -9,9 +15,9 @@ pub fn input_room() -> [u8; 1_048_577]
     [0; 1_048_577]
 }
 
-// 131,072 records.
-pub fn table_room() -> [u32; 786_432]
-    ensures { λ r. ⌜ 786_432 ≡ length r ⌝ }
+// A table of so many words.
+pub fn table_room() -> [u32; TABLE_WORDS]
+    ensures { λ r. ⌜ rowWords * 131_072 ≡ length r ⌝ }
 {
-    [0; 786_432]
+    [0; TABLE_WORDS]
 }

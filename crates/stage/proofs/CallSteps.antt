@@ -174,11 +174,11 @@ module _ {reading : ℕ → Rule} (nu : Numbering reading) {s : List ℕ} where
           by k (a, o, p, g, c) =
               let w : r₂ ≡ Got p (count o) = l .of .is ∙ ap (view counted) (sym k ∙ g) in
               let f = le-leb (count o) (length t / rowWords) (omega arith) in
-              let n = length-records o 0 0 missing in
-              let z : t′ ≡ written (records 0 0 missing o) t =
+              let n = length-records o 0 0 missing 0 in
+              let z : t′ ≡ written (records 0 0 missing 0 o) t =
               l .of .wrote p (count o) w
               ∙ ap (λ (y : Answer). sets t 0 (rowsFrom whole 0 (outOf y))) {y = got a o p} (sym k ∙ g)
-              ∙ sets-written (records 0 0 missing o) t (omega arith) in
+              ∙ sets-written (records 0 0 missing 0 o) t (omega arith) in
               let u = ap (readInto t) {y = got a o p} g in
               rw w (record { is = ap (accepted (count o)) z ∙ sym (u ∙ rw f); numbered = tt })
 

@@ -51,7 +51,7 @@ module _ {reading : ℕ → Rule} (nu : Numbering reading) where
             → (r : Reply) × (t′ : List ℕ) × Reads reading s t r t′
         room {a} {o} {p} e true h = (
           Accepted (count o),
-          written (records 0 0 missing o) t,
+          written (records 0 0 missing 0 o) t,
           record { is = sym (ap (readInto t) {y = got a o p} e ∙ rw h); numbered = tt },
         )
         room {a} {o} {p} e false h = (
@@ -86,10 +86,10 @@ module _ {reading : ℕ → Rule} (nu : Numbering reading) where
       room : {g : Bool} {o : Forest} {p : ℕ} → answer standard reading s ≡ got g o p → (f : Bool)
           → leb (count o) (holds t) ≡ f
           → refused n a b c d t′
-          ≡ pick f (accepted (count o) (written (records 0 0 missing o) t)) (refused tableTooSmall (count o) 0 0 0 t)
+          ≡ pick f (accepted (count o) (written (records 0 0 missing 0 o) t)) (refused tableTooSmall (count o) 0 0 0 t)
           → (Checks reading s (Refused n a b c d) ⊎ TooSmall reading s t n a b c d) × (t′ ≡ t)
       room {o = o} e true h k =
-          absurd (not-both n a b c d (count o) t′ (written (records 0 0 missing o) t) (v .numbered) k)
+          absurd (not-both n a b c d (count o) t′ (written (records 0 0 missing 0 o) t) (v .numbered) k)
       room {o = o} e false h k =
           let w = one-outcome (Refused n a b c d) (Refused tableTooSmall (count o) 0 0 0) t′ t (v .numbered)
           (omega arith) k in

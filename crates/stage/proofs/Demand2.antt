@@ -2,7 +2,7 @@
 use mathlib.Core.Path.{_≡_, refl, sym, ap, subst, _∙_}
 use mathlib.Core.Bool.{Bool, true, false}
 use mathlib.Core.List.{List, [], _∷_, _++_}
-use Prim.Native.Nat.{ℕ, _≤_, _<_}
+use Prim.Native.Nat.{ℕ, _*_, _≤_, _<_}
 use native.Mathlib.Omega.{arith}
 use native.Mathlib.Decide.{decLt}
 use lib.ListN.{getD}
@@ -11,7 +11,7 @@ use borrow.Author.Tests.{lt-leb}
 use Rattle.rules.specs.Forest.{Forest}
 use Rattle.rules.specs.Rule.{Rule}
 use Rattle.rules.specs.Parse.{Answer, got, trouble, pick}
-use Rattle.rules.specs.Record.{row, count}
+use Rattle.rules.specs.Record.{rowWords, row, count}
 use Rattle.jsx.specs.Byte.{bytesOf}
 use Rattle.jsx.specs.Kind as Kind
 use Rattle.jsx.specs.Refusal.{tableTooSmall, namesDiffer}
@@ -142,14 +142,14 @@ gives : (f : Reader) → Right f → (s t : List ℕ) (m : ℕ) (t′ : List ℕ
 gives f right s t m t′ e = read-is (f s t .0) (Accepted m) t′ (right s t) tt e
 
 abbrev rows-a : List ℕ
-rows-a = row 1 0 4 4294967295 3 0 (row 18 0 4 0 3 0 (row 3 1 2 1 3 0 []))
+rows-a = row 1 0 4 4294967295 3 0 0 (row 18 0 4 0 3 0 1 (row 3 1 2 1 3 0 2 []))
 
 read-a : read standard stage (bytesOf "<a/>") (tableOf 3) ≡ accepted 3 rows-a
 unfolding wholeLanguage
 read-a = refl
 
 abbrev rows-ab : List ℕ
-rows-ab = row 1 0 5 4294967295 3 0 (row 18 0 5 0 3 0 (row 3 1 3 1 3 0 []))
+rows-ab = row 1 0 5 4294967295 3 0 0 (row 18 0 5 0 3 0 1 (row 3 1 3 1 3 0 2 []))
 
 read-ab : read standard stage (bytesOf "<ab/>") (tableOf 3) ≡ accepted 3 rows-ab
 unfolding wholeLanguage
@@ -187,7 +187,7 @@ abbrev rows-text : List ℕ
 rows-text = read standard stage (firstChild ++ text-behind) (tableOf 10) .table
 
 read-text : (read standard stage (firstChild ++ text-behind) (tableOf 10) ≡ accepted 9 rows-text)
-    × (getD rows-text 36 0 ≡ Kind.text)
+    × (getD rows-text (rowWords * 6) 0 ≡ Kind.text)
 unfolding wholeLanguage
 read-text = (refl, refl)
 
@@ -195,7 +195,7 @@ abbrev rows-braces : List ℕ
 rows-braces = read standard stage (firstChild ++ braces-behind) (tableOf 10) .table
 
 read-braces : (read standard stage (firstChild ++ braces-behind) (tableOf 10) ≡ accepted 10 rows-braces)
-    × (getD rows-braces 36 0 ≡ Kind.container)
+    × (getD rows-braces (rowWords * 6) 0 ≡ Kind.container)
 unfolding wholeLanguage
 read-braces = (refl, refl)
 
@@ -206,7 +206,7 @@ not-the-first-child-alone f right same =
     let e′ = gives f right (firstChild ++ braces-behind) (tableOf 10) 10 rows-braces (read-braces .0) .1 in
     let z : _≡_ {A = ℕ} Kind.text Kind.container =
     sym (read-text .1)
-    ∙ ap (λ (l : List ℕ). getD l 36 0) (sym e ∙ same text-behind braces-behind (tableOf 10) refl ∙ e′)
+    ∙ ap (λ (l : List ℕ). getD l (rowWords * 6) 0) (sym e ∙ same text-behind braces-behind (tableOf 10) refl ∙ e′)
     ∙ read-braces .1 in
     omega arith
 
@@ -229,8 +229,8 @@ closing-names-count r v = check-is r (Refused namesDiffer 1 2 5 6) v (omega arit
 
 abbrev rows-backslash : List ℕ
 rows-backslash =
-    row 1 0 10 4294967295 6 0 (row 18 0 10 0 6 0 (row 3 1 2 1 3 0 (row 8 3 8 1 6 0 (row 16 3 4 3 5 0
-    (row 10 5 8 3 6 0 [])))))
+    row 1 0 10 4294967295 6 0 0 (row 18 0 10 0 6 0 1 (row 3 1 2 1 3 0 2 (row 8 3 8 1 6 0 2 (row 16 3 4 3 5 0 3
+    (row 10 5 8 3 6 0 3 [])))))
 
 backslash : read standard stage (bytesOf "<a b=\"\\\"/>") (tableOf 6) ≡ accepted 6 rows-backslash
 unfolding wholeLanguage
@@ -255,7 +255,7 @@ end-before-verdict r v = check-is r (Refused 4 6 6 0 0) v (omega arith) cut-shor
 
 abbrev rows-member : List ℕ
 rows-member =
-    row 1 0 10 4294967295 5 0 (row 18 0 10 0 5 0 (row 7 1 8 1 5 0 (row 4 1 4 2 4 0 (row 16 5 8 2 5 0 []))))
+    row 1 0 10 4294967295 5 0 0 (row 18 0 10 0 5 0 1 (row 7 1 8 1 5 0 2 (row 4 1 4 2 4 0 3 (row 16 5 8 2 5 0 3 []))))
 
 member-read : read standard stage (bytesOf "<foo.bar/>") (tableOf 5) ≡ accepted 5 rows-member
 unfolding wholeLanguage

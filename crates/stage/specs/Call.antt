@@ -10,7 +10,7 @@ use Rattle.jsx.specs.Table.{Outcome, missing, accepted, refused, check, read}
 use Rattle.jsx.specs.Compose.{WellFormed}
 use Rattle.lex.specs.declared.Ans.{Ans}
 use Rattle.lex.specs.declared.Ans.the-variants.{Got, No}
-use Rattle.table.specs.declared.Slot.{Slot}
+use Rattle.table.specs.Slot.{Seat}
 use Rattle.stage.specs.declared.Reply.{Reply}
 use Rattle.stage.specs.declared.Reply.the-variants.{Accepted, Refused}
 
@@ -44,8 +44,8 @@ replyOf (Got p m) = Accepted m
 replyOf (No n a b c d) = Refused n a b c d
 
 -- The front of the table, in no record.
-abbrev pub whole : Slot
-whole = record { number = 0; parent = missing }
+abbrev pub whole : Seat
+whole = record { number = 0; parent = missing; depth = 0 }
 
 -- The first two tests of an input: they are passed, or every reading gives their refusal.
 pub record Sound (r : Ans) (s : List ℕ) : Type 0 where

@@ -5,9 +5,10 @@ ghost use Prim.Native.Nat.{_≤_};
 ghost use lib.ListN.{length};
 ghost use Rattle.jsx.specs.Reading.{stage, run};
 ghost use Rattle.jsx.specs.Table.{spanPart, recordPart};
+ghost use Rattle.table.specs.Slot.{seat};
 ghost use Rattle.table.specs.Contract.{Answered};
 ghost use Rattle.table.specs.Reader.{Made};
-ghost use Rattle.stage.specs.Call.{replyOf, whole as wholeSlot, Sound, Checks, Reads};
+ghost use Rattle.stage.specs.Call.{replyOf, whole as wholeSeat, Sound, Checks, Reads};
 use lex::Ans;
 use lex::bytes::END;
 use lex::bytes::LESS;
@@ -55,10 +56,10 @@ fn sound(s: &[u8]) -> Ans
 
 // The front of the table, in no record.
 fn whole() -> Slot
-    ensures { λ r. ⌜ r ≡ wholeSlot ⌝ }
+    ensures { λ r. ⌜ seat r ≡ wholeSeat ⌝ }
 {
     Slot {
-        number: 0,
+        here: 0,
         parent: MISSING,
     }
 }
@@ -66,7 +67,7 @@ fn whole() -> Slot
 // The reading of a stage, with its rows at the front of the table.
 fn stage_into(s: &[u8], t: &mut [u32]) -> Ans
     requires { ⌜ length (now s) ≤ 1_048_576 ⌝ }
-    ensures { λ r. ⌜ Made r (now (s .entry)) (stage 64) 0 0 wholeSlot 0 (now (t .entry)) (now (t .exit)) ⌝ }
+    ensures { λ r. ⌜ Made r (now (s .entry)) (stage 64) 0 0 wholeSeat 0 (now (t .entry)) (now (t .exit)) ⌝ }
 {
     let r = blank::skip_blanks(s, 0);
     let Ans::Got(p, _) = r else {
@@ -92,7 +93,7 @@ fn stage_into(s: &[u8], t: &mut [u32]) -> Ans
 // The reading of a run, with its rows at the front of the table.
 fn run_into(s: &[u8], t: &mut [u32]) -> Ans
     requires { ⌜ length (now s) ≤ 1_048_576 ⌝ }
-    ensures { λ r. ⌜ Made r (now (s .entry)) (run 64) 0 0 wholeSlot 0 (now (t .entry)) (now (t .exit)) ⌝ }
+    ensures { λ r. ⌜ Made r (now (s .entry)) (run 64) 0 0 wholeSeat 0 (now (t .entry)) (now (t .exit)) ⌝ }
 {
     let r = reader::parse_jsx_children(t, s, 0, DEPTH, whole());
     let Ans::Got(p, m) = r else {

@@ -20,14 +20,14 @@ const START: usize = 1;
 
 const END: usize = 2;
 
-const PARENT: usize = 3;
-
 const AFTER: usize = 4;
 
 const EXTRA: usize = 5;
 
+const DEPTH: usize = 6;
+
 // No tree is so deep: of 64 levels, each is at most five records.
-const DEEPEST: u32 = 1_000;
+const DEEPEST: usize = 1_000;
 
 // ---- refusals
 
@@ -111,16 +111,17 @@ fn write_refusal(s: &[u8], n: u32, a: usize, b: usize, c: usize, d: usize) {
 
 // ---- trees
 
-// A record's kind, its start and end, and what it holds where it holds no record.
-fn write_record(s: &[u8], t: &[u32], k: usize, indent: u32)
-    requires { ⌜ (k < 131_072) × (indent ≤ 1_000) ⌝ }
+// A record's kind, its start and end, and what it holds where it holds no record; as far in as it is deep.
+fn write_record(s: &[u8], t: &[u32], k: usize)
+    requires { ⌜ k < 131_072 ⌝ }
 {
     let mut out = [0u8; LINE];
     let i = ROW_WORDS * k;
     let kind = table::table_word(t, i);
     let a = table::table_word(t, i + START) as usize;
     let z = table::table_word(t, i + END) as usize;
-    let p = line::put_many(&mut out, 0, b' ', 2 * (indent as usize));
+    let deep = least(table::table_word(t, i + DEPTH) as usize, DEEPEST);
+    let p = line::put_many(&mut out, 0, b' ', 2 * deep);
     let q = words::put_kind(&mut out, p, kind);
     let e = words::put_span(&mut out, q, a, z);
     let f = words::put_extra(&mut out, e, kind, table::table_word(t, i + EXTRA));
@@ -135,45 +136,22 @@ fn write_record(s: &[u8], t: &[u32], k: usize, indent: u32)
     line::write_line(&mut out, g);
 }
 
-// How deep a record stands: one deeper than its parent, whose depth is known.
-fn depth_of(depths: &[u32], parent: usize) -> u32
-    ensures { λ r. ⌜ r ≤ 1_000 ⌝ }
-{
-    if depths.len() <= parent {
-        return 0;
-    }
-    let d = depths[parent];
-    if d < DEEPEST {
-        return d + 1;
-    }
-    DEEPEST
-}
-
-fn note_depth(depths: &mut [u32], k: usize, d: u32) {
-    if k < depths.len() {
-        depths[k] = d;
-    }
-}
-
 // The records of a table as a tree.
-fn write_tree(s: &[u8], t: &[u32], m: usize, depths: &mut [u32])
+fn write_tree(s: &[u8], t: &[u32], m: usize)
     requires { ⌜ m ≤ 131_072 ⌝ }
 {
     let mut k = 0;
     while k < m {
-        let parent = table::table_word(t, ROW_WORDS * k + PARENT);
-        let d = depth_of(depths, parent as usize);
-        note_depth(depths, k, d);
-        write_record(s, t, k, d);
+        write_record(s, t, k);
         k = k + 1;
     }
 }
 
-// A stage in words: what refuses it, or the tree of its records. `depths` is lent to note how deep each record stands.
-pub fn tell(s: &[u8], t: &mut [u32], depths: &mut [u32]) {
+// A stage in words: what refuses it, or the tree of its records.
+pub fn tell(s: &[u8], t: &mut [u32]) {
     let r = stage::read_stage(s, t);
     match r {
-        Reply::Accepted(m) => write_tree(s, t, least(m, MOST_RECORDS), depths),
+        Reply::Accepted(m) => write_tree(s, t, least(m, MOST_RECORDS)),
         Reply::Refused(n, a, b, c, d) => write_refusal(s, n, a, b, c, d),
     }
 }

@@ -27,6 +27,12 @@ add-put-word-2 c = search needs
 put-word-requires-2 : tie.Need-put-word-requires-2
 put-word-requires-2 c κs = search needs
 
+add-put-word-3 : tie.Need-add-put-word-3
+add-put-word-3 c = search needs
+
+put-word-requires-3 : tie.Need-put-word-requires-3
+put-word-requires-3 c κs = search needs
+
 same-length : tie.Need-same-length
 same-length c = search needs
 
@@ -45,5 +51,7 @@ put-tree-spec =
     put-word-requires
     add-put-word-2
     put-word-requires-2
+    add-put-word-3
+    put-word-requires-3
     same-length
     returns)

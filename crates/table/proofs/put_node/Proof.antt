@@ -1,18 +1,10 @@
 use Rattle.table.proofs.put_node.Statement.{statement}
 use Rattle.table.proofs.put_node.Tie as tie
 use Rattle.table.proofs.Seats.{row-steps}
-use borrow.Author.Needs.{needs}
-use Rattle.table.proofs.put_node.Reads as reads
-use Rattle.table.proofs.put_node.Lts as lts
-use Rattle.table.proofs.Slot.depth.Reads as depth-reads
-use Rattle.table.proofs.Slot.number.Reads as number-reads
-use Rattle.table.proofs.put_three.Reads as put-three-reads
-use Rattle.table.proofs.put_word.Reads as put-word-reads
 
 put-three-requires : tie.Need-put-three-requires
 put-three-requires c κs = search row-steps
 
--- src/lib.rt:117:39
 number-requires : tie.Need-number-requires
 number-requires c κs = search row-steps
 
@@ -25,11 +17,9 @@ add-put-three-2 c = search row-steps
 put-three-requires-2 : tie.Need-put-three-requires-2
 put-three-requires-2 c κs = search row-steps
 
--- src/lib.rt:118:24
 depth-requires : tie.Need-depth-requires
 depth-requires c κs = search row-steps
 
--- src/lib.rt:118:5
 put-word-requires : tie.Need-put-word-requires
 put-word-requires c κs = search row-steps
 
