@@ -392,7 +392,7 @@ fn all_of_length(alphabet: &[u8], length: usize) -> Vec<Vec<u8>> {
 #[cfg(test)]
 mod tests {
     use super::*;
-    use crate::table::Record;
+    use crate::table::{Record, ROW_WORDS};
 
     fn answer(reading: Reading, input: &[u8]) -> Answer {
         read(input, reading, Limits::default())
@@ -444,6 +444,7 @@ mod tests {
     }
 
     /// Demand 3: joined runs are read as the first followed by the second, but a text meeting a text is one.
+    /// D2: "a joined run keeps the word".
     #[test]
     fn joined_runs_are_read_as_their_readings() {
         for number in 0..500u64 {
@@ -469,6 +470,7 @@ mod tests {
     }
 
     /// Demand 3: the content of any paired element or fragment may be replaced by any accepted run.
+    /// D2: "a replaced content adds the enclosing record's depth plus one".
     #[test]
     fn content_may_be_replaced_by_a_run() {
         for number in 0..500 {
@@ -507,6 +509,7 @@ mod tests {
             if record.parent == u32::MAX {
                 record.parent = enclosing;
             }
+            record.depth += table[enclosing as usize].depth + 1;
             new.push(record);
         }
         for mut record in table[closing..].iter().copied() {
@@ -529,14 +532,23 @@ mod tests {
             let inside = accepted(Run, &run);
             let stage = accepted(Stage, &[b"<>", &run[..], b"</>"].concat());
             let mut expected = moved(&inside, 2, 2);
-            for record in expected.iter_mut().filter(|r| r.parent == u32::MAX) {
-                record.parent = 0;
+            for record in &mut expected {
+                record.depth += 1;
+                if record.parent == u32::MAX {
+                    record.parent = 0;
+                }
             }
             assert_eq!(stage[2..stage.len() - 1], expected);
         }
     }
 
-    /// In every accepted case `after` and `parent` fit together and spans lie inside the parent's.
+    /// How many records are met on the way out from this one.
+    fn ancestors(table: &[Record], record: &Record) -> u32 {
+        let out = |r: &&Record| table.get(r.parent as usize);
+        std::iter::successors(out(&record), out).count() as u32
+    }
+
+    /// In every accepted case `after` and `parent` fit together, spans lie inside the parent's, and `depth` counts the ancestors.
     #[test]
     fn tables_are_well_formed() {
         for number in 0..500 {
@@ -545,6 +557,7 @@ mod tests {
             for (number, record) in table.iter().enumerate() {
                 assert!(record.start <= record.end && record.end as usize <= written.bytes.len());
                 assert!(record.after as usize > number && record.after as usize <= table.len());
+                assert_eq!(record.depth, ancestors(&table, record));
                 if let Some(parent) = table.get(record.parent as usize) {
                     assert!((record.parent as usize) < number && record.after <= parent.after);
                     assert!(parent.start <= record.start && record.end <= parent.end);
@@ -572,19 +585,28 @@ mod tests {
             numbers,
             [0, 1, 2, 3, 4, 5, 6, 7, 8, 9, 10, 11, 12, 13, 14, 16]
         );
-        let mut kinds: Vec<u32> = cases.iter().flat_map(kinds_of).collect();
+        let mut kinds: Vec<u32> = cases.iter().flat_map(|case| words_of(case, 0)).collect();
         kinds.sort();
         kinds.dedup();
         assert_eq!(kinds, (1..=18).collect::<Vec<u32>>());
     }
 
-    fn kinds_of(case: &Case) -> Vec<u32> {
+    /// 5.6: the greatest word within document 01's limits.
+    #[test]
+    fn the_greatest_depth_of_the_corpus_is_193() {
+        let cases = corpus();
+        let depths = cases.iter().flat_map(|case| words_of(case, ROW_WORDS - 1));
+        assert_eq!(depths.max(), Some(193));
+    }
+
+    /// The word at a place of each record of a case.
+    fn words_of(case: &Case, place: usize) -> Vec<u32> {
         let records = case.answer.rsplit(':').next().unwrap();
-        let kind = |record: &str| record.split(',').next().unwrap().parse().unwrap();
+        let word = |record: &str| record.split(',').nth(place).unwrap().parse().unwrap();
         records
             .split('|')
             .filter(|r| !r.is_empty())
-            .map(kind)
+            .map(word)
             .collect()
     }
 

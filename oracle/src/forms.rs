@@ -1,8 +1,9 @@
 //! Answers in writing: the program's form, and the form of a file of cases.
 
-use crate::{Answer, Record, NO_PARENT};
+use crate::{Answer, Record, NO_PARENT, ROW_WORDS};
 
 /// D: "`ok 6`" and a row a record; "A refusal prints as `no 7 1 2 5 6`". A25: each line ends with LF.
+/// D2: "printed lines end with the new number".
 pub fn program_form(answer: &Answer) -> String {
     match answer {
         Answer::Accepted(records) => rows(records),
@@ -41,13 +42,14 @@ fn words(record: &Record, between: &str) -> String {
         NO_PARENT => "-".to_string(),
         number => number.to_string(),
     };
-    let words = [
+    let words: [String; ROW_WORDS] = [
         record.kind.to_string(),
         record.start.to_string(),
         record.end.to_string(),
         parent,
         record.after.to_string(),
         record.extra.to_string(),
+        record.depth.to_string(),
     ];
     words.join(between)
 }

@@ -1,6 +1,7 @@
-//! The language of document 01, read a second time, from the documents alone.
+//! The language of document 01, with request 5 of document 02, read a second time, from the documents alone.
 //!
-//! "D:" in the comments quotes document 01; A1 to A28 are the readings of its open points.
+//! "D:" in the comments quotes document 01, "D2:" document 02; A1 to A28 are the readings of the first's open points,
+//! 5.1 to 5.9 those of the request's.
 //! The reader is plain recursive descent. It builds a tree of nodes; `table` numbers the tree
 //! into records. Nothing here is fast and nothing is shared with the code that is held against it.
 
@@ -20,7 +21,7 @@ pub mod corpus;
 pub mod forms;
 pub mod named;
 
-pub use table::{kind, Record, NO_PARENT};
+pub use table::{kind, Record, NO_PARENT, ROW_WORDS};
 
 /// D: "The two readings".
 #[derive(Clone, Copy, Debug, PartialEq, Eq)]
@@ -103,9 +104,9 @@ pub fn read_into(input: &[u8], reading: Reading, limits: Limits, capacity: usize
     }
 }
 
-/// D: "A table of w words holds w/6 records, rounded down".
+/// D2: "A table of w words now holds w/7 records"; 5.4: rounded down.
 pub fn capacity_of(words: usize) -> usize {
-    words / 6
+    words / ROW_WORDS
 }
 
 fn nodes(input: &[u8], reading: Reading, limits: Limits) -> Result<Vec<table::Node>, Refusal> {

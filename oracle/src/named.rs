@@ -1,4 +1,4 @@
-//! Every input that document 01 or the page of readings names, with the answer derived by hand.
+//! Every input that document 01 or a page of readings names, with the answer derived by hand.
 //!
 //! An answer is the first line that the program would print: `ok N`, or `no n a b c d`.
 
@@ -15,10 +15,19 @@ pub struct Named {
 type Row = (&'static str, Reading, &'static [u8], &'static str);
 
 pub fn named() -> Vec<Named> {
-    let tables: [&[Row]; 6] = [MARKED, MARKUP, BRACES, BYTES, READINGS, SMALLER_READINGS];
+    let tables: [&[Row]; 7] = [
+        MARKED,
+        MARKUP,
+        BRACES,
+        BYTES,
+        READINGS,
+        SMALLER_READINGS,
+        REQUEST_5,
+    ];
     let mut all: Vec<Named> = tables.into_iter().flatten().map(of_row).collect();
     all.extend(words());
     all.extend(deep());
+    all.push(greatest_word());
     all
 }
 
@@ -348,6 +357,13 @@ const SMALLER_READINGS: &[Row] = &[
     ("A28", Stage, b"<>{a</>", "no 3 4 4 0 0"),
 ];
 
+/// 5.1 and 5.2, where they name an input that is not above. The words themselves stand in tests/all/depths.rs.
+#[rustfmt::skip]
+const REQUEST_5: &[Row] = &[
+    ("5.1", Run, b"x<a/>", "ok 4"),
+    ("5.2", Stage, b"<a>{((<b/>))}</a>", "ok 10"),
+];
+
 /// The 38 reserved words of ECMA-262.
 pub const RESERVED_WORDS: &str = "await break case catch class const continue debugger default \
     delete do else enum export extends false finally for function if import in instanceof new null \
@@ -441,6 +457,12 @@ fn deep() -> Vec<Named> {
             "no 14 253 253 0 0",
         ),
     ]
+}
+
+/// 5.6: an element as an attribute's value adds 3 ancestors a level (1, 18, 8), the last one's attribute `b:c` four more.
+fn greatest_word() -> Named {
+    let input = format!("{}<a b:c/>{}", "<a b=".repeat(63), "/>".repeat(63));
+    of_text("5.6", input, "ok 322")
 }
 
 fn of_text(source: &'static str, input: String, expected: &str) -> Named {

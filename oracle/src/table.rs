@@ -25,7 +25,9 @@ pub mod kind {
     pub const OPENING_TAG: u32 = 18;
 }
 
-/// D: "Six u32 words a record: kind, start, end, parent, after, extra."
+/// The words of a record. D: "kind, start, end, parent, after, extra"; D2: "Each record gets a seventh word".
+pub const ROW_WORDS: usize = 7;
+
 #[derive(Clone, Copy, Debug, PartialEq, Eq)]
 pub struct Record {
     pub kind: u32,
@@ -34,6 +36,8 @@ pub struct Record {
     pub parent: u32,
     pub after: u32,
     pub extra: u32,
+    /// D2: "the number of its ancestors in the table".
+    pub depth: u32,
 }
 
 /// A piece of the reading with the pieces it holds.
@@ -73,24 +77,28 @@ impl Node {
 pub(crate) fn records(nodes: &[Node]) -> Vec<Record> {
     let mut records = Vec::new();
     for node in nodes {
-        write(node, NO_PARENT, &mut records);
+        write(node, &mut Vec::new(), &mut records);
     }
     records
 }
 
+/// `ancestors` has the numbers of the records around the node, the outermost first: the last one is its parent.
 /// D: "`after` is the number of the first record past the subtree".
-fn write(node: &Node, parent: u32, records: &mut Vec<Record>) {
+fn write(node: &Node, ancestors: &mut Vec<u32>, records: &mut Vec<Record>) {
     let number = records.len();
     records.push(Record {
         kind: node.kind,
         start: node.start as u32,
         end: node.end as u32,
-        parent,
+        parent: ancestors.last().copied().unwrap_or(NO_PARENT),
         after: 0,
         extra: node.extra,
+        depth: ancestors.len() as u32,
     });
+    ancestors.push(number as u32);
     for held in &node.holds {
-        write(held, number as u32, records);
+        write(held, ancestors, records);
     }
+    ancestors.pop();
     records[number].after = records.len() as u32;
 }

@@ -114,7 +114,15 @@ fn the_limit_of_records() {
 }
 
 #[test]
-fn a_table_of_words_holds_a_sixth_rounded_down() {
-    let held = [0, 5, 6, 17, 18, 19].map(capacity_of);
-    assert_eq!(held, [0, 0, 1, 2, 3, 3]);
+fn a_table_of_words_holds_a_seventh_rounded_down() {
+    let held = [0, 6, 7, 20, 21, 22, 14_336].map(capacity_of);
+    assert_eq!(held, [0, 0, 1, 2, 3, 3, 2_048]);
+}
+
+/// 5.4: 15 has the needed count in records.
+#[test]
+fn three_records_need_21_words() {
+    let into = |words: usize| read_into(b"<a/>", Stage, Limits::default(), capacity_of(words));
+    assert_eq!(into(20), refused(15, [3, 0, 0, 0]));
+    assert_eq!(count(into(21)), 3);
 }

@@ -1,5 +1,6 @@
 //! The tests of the oracle, in one program.
 
+mod depths;
 mod limits;
 mod named;
 mod program;

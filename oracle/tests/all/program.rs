@@ -21,7 +21,7 @@ fn a_batch_answers_item_after_item() {
         item(b'r', b""),
         item(b's', b""),
     ];
-    let expected = "no 7 1 2 5 6\nok 1\n0 14 0 2 - 1 0\nok 0\nno 4 0 0 0 0\n";
+    let expected = "no 7 1 2 5 6\nok 1\n0 14 0 2 - 1 0 0\nok 0\nno 4 0 0 0 0\n";
     assert_eq!(answers(&input.concat()), expected);
     assert_eq!(answers(b""), "");
 }
@@ -69,7 +69,7 @@ fn a_batch_holds_131072_records() {
 fn the_program_prints_with_its_limits() {
     assert_eq!(
         batch::stage(b"<a/>"),
-        "ok 3\n0 1 0 4 - 3 0\n1 18 0 4 0 3 0\n2 3 1 2 1 3 0\n"
+        "ok 3\n0 1 0 4 - 3 0 0\n1 18 0 4 0 3 0 1\n2 3 1 2 1 3 0 2\n"
     );
     assert_eq!(batch::stage(b"<v></w>"), "no 7 1 2 5 6\n");
     assert_eq!(batch::stage(b""), "no 4 0 0 0 0\n");
@@ -91,12 +91,14 @@ fn the_program_has_2048_records() {
 
 #[test]
 fn cases_are_held_against_the_answers() {
-    let good = "S named 3c763e3c2f773e 7:1,2:5,6:0:\nR named - 0:0,0:0,0:0:\n";
+    let good = "S named 3c763e3c2f773e 7:1,2:5,6:0:\nR named - 0:0,0:0,0:0:\n\
+                R named 78 0:0,0:0,0:1:14,0,1,-,1,0,0\n";
     let held = cases::hold(good);
-    assert_eq!((held.cases, held.differences.len()), (2, 0));
-    let wrong = "S named 3c763e3c2f773e 7:1,2:5,7:0:\nS named - 0:0,0:0,0:0:\nS named 3 4:0,0:0,0:0:\nhello\n";
+    assert_eq!((held.cases, held.differences.len()), (3, 0));
+    let wrong = "S named 3c763e3c2f773e 7:1,2:5,7:0:\nS named - 0:0,0:0,0:0:\nS named 3 4:0,0:0,0:0:\nhello\n\
+                 R named 78 0:0,0:0,0:1:14,0,1,-,1,0,1\nR named 78 0:0,0:0,0:1:14,0,1,-,1,0\n";
     let held = cases::hold(wrong);
-    assert_eq!((held.cases, held.differences.len()), (4, 4));
+    assert_eq!((held.cases, held.differences.len()), (6, 6));
     assert!(held.differences[0].starts_with("line 1: Stage named \"<v></w>\""));
 }
 
