@@ -18,9 +18,10 @@ function answer(said) {
   return rows === null ? 'ok ?\n' : `ok ${rows.length}\n${rows.map(row).join('')}`;
 }
 
-function row([kind, start, end, parent, paired], number) {
+function row([kind, start, end, parent, paired, depth], number) {
   const kindWord = kind === NAME_PART ? 'name' : kind;
-  return `${number} ${kindWord} ${start} ${end} ${parent < 0 ? '-' : parent} ? ${kind === ELEMENT ? paired : '?'}\n`;
+  const extra = kind === ELEMENT ? paired : '?';
+  return `${number} ${kindWord} ${start} ${end} ${parent < 0 ? '-' : parent} ? ${extra} ${depth}\n`;
 }
 
 async function main() {

@@ -8,10 +8,11 @@
 // wrapped in `<>` and `</>`, as one expression of a module, with JSX and without TypeScript.
 //
 // A line is `null` where the bytes are not UTF-8, else an object with an answer for each parser: {"no": why it refuses} or
-// {"rows": [[kind, start, end, parent, paired], ..]}. Rows are in preorder and have document 01's kinds, but that every part of
+// {"rows": [[kind, start, end, parent, paired, depth], ..]}. Rows are in preorder and have document 01's kinds, but that every part of
 // a name is a 16: these parsers do not tell 3, 4 and 5 apart. Offsets are in bytes of UTF-8, those of a run less 2; `paired` is 1
-// for an element with a closing tag; a missing parent is -1. TypeScript and esbuild give no rows: {"rows": null}. `checker` is TypeScript's
-// checker, of which only errors about grammar count: it has an answer where the parser accepts.
+// for an element with a closing tag; a missing parent is -1; `depth` is the number of ancestors among the rows. TypeScript and esbuild
+// give no rows: {"rows": null}. `checker` is TypeScript's checker, of which only errors about grammar count: it has an answer where the
+// parser accepts.
 //
 // Only a parser's own syntax error is a refusal, and the two ways in which a parser was seen to end otherwise: OTHER_ENDS. Any other trouble
 // ends the program.
@@ -79,13 +80,16 @@ function itemRows(tree, item) {
   if (!isMarkup(tree)) return [];
   const rows = new Rows(item.code).element(tree, -1).all;
   if (item.reading === 's') return rows;
-  return rows.slice(2, -1).map(([kind, start, end, parent, paired]) =>
-    [kind, start - 2, end - 2, parent === 0 ? -1 : parent - 2, paired]);
+  return rows.slice(2, -1).map(([kind, start, end, parent, paired, depth]) =>
+    [kind, start - 2, end - 2, parent === 0 ? -1 : parent - 2, paired, depth - 1]);
 }
 
 function isMarkup(node) {
   return node.type === 'JSXElement' || node.type === 'JSXFragment';
 }
+
+// The place of `depth` in a row.
+const DEPTH = 5;
 
 class Rows {
   constructor(code) {
@@ -94,7 +98,8 @@ class Rows {
   }
 
   row(kind, node, parent, paired = 0) {
-    return this.all.push([kind, this.byteAt(node.start), this.byteAt(node.end), parent, paired]) - 1;
+    const depth = parent < 0 ? 0 : this.all[parent][DEPTH] + 1;
+    return this.all.push([kind, this.byteAt(node.start), this.byteAt(node.end), parent, paired, depth]) - 1;
   }
 
   element(node, parent) {

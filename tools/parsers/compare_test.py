@@ -14,8 +14,8 @@ loader = SourceFileLoader("compare", os.path.join(HERE, "compare"))
 compare = module_from_spec(spec_from_loader("compare", loader))
 loader.exec_module(compare)
 
-STAGE = ["ok 3", "0 1 0 4 - 3 0", "1 18 0 4 0 3 0", "2 4 1 2 1 3 0"]
-ROWS = [[1, 0, 4, -1, 0], [18, 0, 4, 0, 0], [16, 1, 2, 1, 0]]
+STAGE = ["ok 3", "0 1 0 4 - 3 0 0", "1 18 0 4 0 3 0 1", "2 4 1 2 1 3 0 2"]
+ROWS = [[1, 0, 4, -1, 0, 0], [18, 0, 4, 0, 0, 1], [16, 1, 2, 1, 0, 2]]
 
 
 def port_answer(lines):
@@ -33,14 +33,14 @@ class Difference(unittest.TestCase):
 
     def test_each_word_of_a_row_counts(self):
         for row in range(3):
-            for word in range(5):
+            for word, name in enumerate(compare.ROW):
                 rows = [list(one) for one in ROWS]
                 rows[row][word] += 1
-                with self.subTest(row=row, word=word):
-                    self.assertIn("other spans", self.differs(STAGE, {"rows": rows})[1])
+                with self.subTest(row=row, word=name):
+                    self.assertRegex(self.differs(STAGE, {"rows": rows})[1], "other spans: .*, %s$" % name)
 
     def test_more_and_less_rows(self):
-        self.assertIn("more rows", self.differs(STAGE, {"rows": ROWS + [[14, 4, 5, -1, 0]]})[1])
+        self.assertIn("more rows", self.differs(STAGE, {"rows": ROWS + [[14, 4, 5, -1, 0, 0]]})[1])
         self.assertIn("less rows", self.differs(STAGE, {"rows": ROWS[:2]})[1])
 
     def test_one_accepts_and_the_other_refuses(self):
