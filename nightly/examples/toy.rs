@@ -24,6 +24,6 @@ fn main() -> io::Result<()> {
 fn answer(bytes: &[u8]) -> String {
     match bytes.iter().position(|byte| *byte == b'!') {
         Some(at) => format!("no 3 {at} {at} 0 0\n"),
-        None => format!("ok 1\n0 14 0 {} - 1 0\n", bytes.len()),
+        None => format!("ok 1\n0 14 0 {} - 1 0 0\n", bytes.len()),
     }
 }

@@ -1,5 +1,5 @@
 //! A plug-in that is wrong on purpose: it hands on what a command answers, but gives the first record of an accepted item
-//! that holds `{...` another `extra`. A night run must find that and shrink it to a few bytes.
+//! that holds `{...` another `depth`. A night run must find that and shrink it to a few bytes.
 //!
 //!     wrong COMMAND < ITEMS
 

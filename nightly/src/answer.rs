@@ -4,8 +4,8 @@ use std::io::{self, BufRead};
 
 /// The parent of an outermost record.
 pub const NO_PARENT: u32 = u32::MAX;
-/// Words of a row: kind, start, end, parent, after, extra.
-pub const WORDS: [&str; 6] = ["kind", "start", "end", "parent", "after", "extra"];
+/// The words of a row.
+pub const WORDS: [&str; 7] = ["kind", "start", "end", "parent", "after", "extra", "depth"];
 
 /// A word of a row, as far as it is told.
 #[derive(Clone, Copy, PartialEq, Eq, Debug)]
@@ -28,7 +28,7 @@ impl Word {
     }
 }
 
-pub type Row = [Word; 6];
+pub type Row = [Word; WORDS.len()];
 
 #[derive(Clone, PartialEq, Eq, Debug)]
 pub enum Refusal {
@@ -134,10 +134,10 @@ mod tests {
 
     #[test]
     fn whole_answers() {
-        let text = b"ok 2\n0 1 0 4 - 2 0\n1 18 0 4 0 2 0\n";
+        let text = b"ok 2\n0 1 0 4 - 2 0 0\n1 18 0 4 0 2 0 1\n";
         let rows = vec![
-            [1, 0, 4, NO_PARENT, 2, 0].map(Word::Is),
-            [18, 0, 4, 0, 2, 0].map(Word::Is),
+            [1, 0, 4, NO_PARENT, 2, 0, 0].map(Word::Is),
+            [18, 0, 4, 0, 2, 0, 1].map(Word::Is),
         ];
         assert_eq!(Answer::parsed(text), Ok(Answer::Ok(Some(rows))));
         let refused = Refusal::Told(7, [1, 2, 5, 6]);
@@ -154,16 +154,24 @@ mod tests {
             Ok(Answer::No(said))
         );
         assert_eq!(Answer::parsed(b"skip not UTF-8\n"), Ok(Answer::Skip));
-        let Ok(Answer::Ok(Some(rows))) = Answer::parsed(b"ok 1\n0 name 1 2 - ? ?\n") else {
+        let Ok(Answer::Ok(Some(rows))) = Answer::parsed(b"ok 1\n0 name 1 2 - ? ? 0\n") else {
             panic!("rows with words that are not told");
         };
         assert_eq!(rows[0][0], Word::NamePart);
-        assert_eq!(rows[0][4..], [Word::Untold; 2]);
+        assert_eq!(rows[0][4..], [Word::Untold, Word::Untold, Word::Is(0)]);
     }
 
     #[test]
     fn what_is_no_answer() {
-        for text in ["", "bad item 0\n", "no 7 1 2\n", "ok 1\n0 1 2\n", "no x\n"] {
+        let texts = [
+            "",
+            "bad item 0\n",
+            "no 7 1 2\n",
+            "ok 1\n0 1 2\n",
+            "ok 1\n0 14 0 1 - 1 0\n",
+            "no x\n",
+        ];
+        for text in texts {
             assert!(Answer::parsed(text.as_bytes()).is_err(), "{text}");
         }
     }
@@ -178,9 +186,9 @@ mod tests {
 
     #[test]
     fn answers_one_by_one() {
-        let mut output = &b"ok 1\n0 14 0 1 - 1 0\nno 4 0 0 0 0\nok 2\n0"[..];
+        let mut output = &b"ok 1\n0 14 0 1 - 1 0 0\nno 4 0 0 0 0\nok 2\n0"[..];
         let first = next_answer(&mut output).unwrap().unwrap();
-        assert_eq!(first, b"ok 1\n0 14 0 1 - 1 0\n");
+        assert_eq!(first, b"ok 1\n0 14 0 1 - 1 0 0\n");
         let second = next_answer(&mut output).unwrap().unwrap();
         assert_eq!(second, b"no 4 0 0 0 0\n");
         assert_eq!(next_answer(&mut output).unwrap(), None);

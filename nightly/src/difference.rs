@@ -70,7 +70,7 @@ fn refusals(one: &Refusal, other: &Refusal) -> Option<String> {
 /// The kinds of the first rows that differ, and the first word in which they do.
 fn first_other(port: &[Row], other: &[Row]) -> Option<String> {
     for (one, other) in port.iter().zip(other) {
-        let Some(at) = (0..6).find(|at| !one[*at].agrees(other[*at])) else {
+        let Some(at) = (0..WORDS.len()).find(|at| !one[*at].agrees(other[*at])) else {
             continue;
         };
         let kind = kind_word(one);
@@ -134,7 +134,7 @@ mod tests {
     use super::*;
     use crate::item::Reading;
 
-    const STAGE: &str = "ok 3\n0 1 0 4 - 3 0\n1 18 0 4 0 3 0\n2 4 1 2 1 3 0\n";
+    const STAGE: &str = "ok 3\n0 1 0 4 - 3 0 0\n1 18 0 4 0 3 0 1\n2 4 1 2 1 3 0 2\n";
 
     fn differ(port: &str, other: &str) -> Option<String> {
         let item = Item {
@@ -175,14 +175,14 @@ mod tests {
     #[test]
     fn each_word_of_a_row_counts_where_it_is_told() {
         let words = STAGE.trim_end().lines().nth(2).unwrap();
-        for at in 1..7 {
+        for (at, name) in (1..).zip(WORDS) {
             let mut changed: Vec<&str> = words.split(' ').collect();
             changed[at] = "99";
             let told = STAGE.replace(words, &changed.join(" "));
             let class = differ(STAGE, &told).expect("a difference");
             assert_eq!(
                 class,
-                format!("both accept, row of kind 18: {} differs", WORDS[at - 1])
+                format!("both accept, row of kind 18: {name} differs")
             );
             changed[at] = "?";
             assert_eq!(
@@ -194,7 +194,7 @@ mod tests {
 
     #[test]
     fn more_and_fewer_rows() {
-        let fewer = "ok 2\n0 1 0 4 - 3 0\n1 18 0 4 0 3 0\n";
+        let fewer = "ok 2\n0 1 0 4 - 3 0 0\n1 18 0 4 0 3 0 1\n";
         assert_eq!(
             differ(STAGE, fewer).unwrap(),
             "both accept, it has fewer rows"

@@ -75,7 +75,7 @@ mod tests {
             class: "both accept, it has more rows",
             length: 900,
             smallest: &smallest,
-            port: b"ok 1\n0 14 0 1 - 1 0\n",
+            port: b"ok 1\n0 14 0 1 - 1 0 0\n",
             other: b"ok 2\n",
         };
         assert_eq!(found.file_name(), "12-oracle.run");

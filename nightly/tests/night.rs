@@ -75,7 +75,7 @@ fn a_wrong_oracle_is_found_and_shrunk() {
         ],
     );
     assert_eq!(done.status.code(), Some(1), "{}", text(&done.stderr));
-    assert!(text(&done.stdout).contains("wrong: both accept, row of kind 14: extra differs"));
+    assert!(text(&done.stdout).contains("wrong: both accept, row of kind 14: depth differs"));
     let differences = fs::read_to_string(out.join("differences.txt")).expect("a list");
     assert_eq!(differences.lines().count(), 2);
     for line in differences.lines() {

@@ -1,11 +1,12 @@
-//! The records of document 01 from the tree of oxc. `D:` quotes document 01's chapter 'The table'.
+//! The records of document 01 from the tree of oxc. `D:` quotes document 01's chapter 'The table', `D2:` document 02.
 
 use oxc_ast::ast::*;
 use oxc_ast_visit::Visit;
 use oxc_span::{GetSpan, Span};
 
 const NO_PARENT: usize = u32::MAX as usize;
-/// What a run is wrapped in has two records in front of it, one behind it, and two bytes in front of it.
+/// What a run is wrapped in has two records in front of it, one behind it, and two bytes in front of it; the fragment is
+/// one ancestor more.
 const WRAPPING: usize = 2;
 
 struct Row {
@@ -15,6 +16,8 @@ struct Row {
     parent: usize,
     after: usize,
     extra: usize,
+    /// D2: "the number of its ancestors in the table".
+    depth: usize,
 }
 
 pub struct Rows<'s> {
@@ -48,6 +51,7 @@ impl<'s> Rows<'s> {
             row.start -= WRAPPING;
             row.end -= WRAPPING;
             row.after -= WRAPPING;
+            row.depth -= 1;
             row.parent = if row.parent == 0 {
                 NO_PARENT
             } else {
@@ -68,6 +72,7 @@ impl<'s> Rows<'s> {
                 parent,
                 after,
                 extra,
+                depth,
             },
         ) in self.rows.iter().enumerate()
         {
@@ -76,7 +81,7 @@ impl<'s> Rows<'s> {
             } else {
                 parent.to_string()
             };
-            text += &format!("{number} {kind} {start} {end} {parent} {after} {extra}\n");
+            text += &format!("{number} {kind} {start} {end} {parent} {after} {extra} {depth}\n");
         }
         text
     }
@@ -92,6 +97,7 @@ impl<'s> Rows<'s> {
             parent,
             after: 0,
             extra: usize::from(extra),
+            depth: self.rows.get(parent).map_or(0, |around| around.depth + 1),
         });
         self.here = number;
         fill(self);
