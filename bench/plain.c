@@ -13,6 +13,7 @@ typedef struct {
     int left;       /* levels that may still be entered */
     uint32_t *t;    /* null: only count */
     size_t k;       /* records so far */
+    uint32_t depth; /* ancestors of the next record */
     uint32_t number;
     size_t *values;
 } R;
@@ -144,13 +145,14 @@ static int blanks(R *r) {
 
 static inline void put(R *r, size_t i, uint32_t kind, size_t a, size_t b, uint32_t parent, uint32_t extra) {
     if (!r->t) return;
-    uint32_t *w = r->t + 6 * i;
+    uint32_t *w = r->t + ROW * i;
     w[0] = kind;
     w[1] = a;
     w[2] = b;
     w[3] = parent;
     w[4] = r->k;
     w[5] = extra;
+    w[6] = r->depth;
 }
 
 static int part(R *r, Span *p, int *dash) {
@@ -182,11 +184,13 @@ static int namespaced(R *r, Span first, int dash, size_t me, uint32_t parent, Sp
     Span second;
     int second_dash;
     size_t x = r->k++;
+    r->depth++;
     put(r, x, 16, first.a, first.b, me, dash);
     r->at++;
     if (!blanks(r) || !part(r, &second, &second_dash)) return 0;
     size_t y = r->k++;
     put(r, y, 16, second.a, second.b, me, second_dash);
+    r->depth--;
     put(r, me, 6, first.a, second.b, parent, 0);
     *out = (Span){first.a, second.b};
     return 1;
@@ -196,6 +200,7 @@ static int namespaced(R *r, Span first, int dash, size_t me, uint32_t parent, Sp
 static int member(R *r, Span first, int dash, size_t me, uint32_t parent, Span *out) {
     Span p = first;
     size_t object = r->k++;
+    r->depth++;
     put(r, object, is_this(r, first) ? 5 : 4, first.a, first.b, me, dash);
     while (here(r) == '.') {
         r->at++;
@@ -206,6 +211,7 @@ static int member(R *r, Span first, int dash, size_t me, uint32_t parent, Span *
         if (!blanks(r)) return 0;
     }
     r->at = p.b;
+    r->depth--;
     put(r, me, 7, first.a, p.b, parent, 0);
     *out = (Span){first.a, p.b};
     return 1;
@@ -458,7 +464,9 @@ static int conditional(R *r, uint32_t parent) {
 
 static int expression(R *r, uint32_t parent) {
     size_t me = r->k++, a = r->at;
+    r->depth++;
     if (!conditional(r, me)) return 0;
+    r->depth--;
     put(r, me, 15, a, r->at, parent, 0);
     return 1;
 }
@@ -470,7 +478,9 @@ enum where { CHILD, VALUE, ATTRIBUTE };
 static int empty_braces(R *r, size_t start, uint32_t parent, enum where where) {
     if (where == VALUE) return no(r, 11, start, r->at + 1, 0, 0);
     size_t me = r->k++, x = r->k++;
+    r->depth++;
     put(r, x, 12, start + 1, r->at, me, 0);
+    r->depth--;
     r->at++;
     put(r, me, 11, start, r->at, parent, 0);
     return 1;
@@ -480,17 +490,21 @@ static int spread(R *r, size_t start, uint32_t parent, enum where where) {
     if (here(r) != '.') return need(r);
     if (byte(r, r->at + 1) != '.' || byte(r, r->at + 2) != '.') return no_at(r, 3, r->at);
     size_t me = r->k++;
+    r->depth++;
     r->at += 3;
     if (!blanks(r) || !expression(r, me) || !blanks(r) || !expect(r, '}')) return 0;
+    r->depth--;
     put(r, me, where == ATTRIBUTE ? 9 : 13, start, r->at, parent, 0);
     return 1;
 }
 
 static int container(R *r, size_t start, uint32_t parent) {
     size_t me = r->k++;
+    r->depth++;
     if (!expression(r, me) || !blanks(r)) return 0;
     if (here(r) == ',') return no(r, 16, r->at, r->at + 1, 0, 0);
     if (!expect(r, '}')) return 0;
+    r->depth--;
     put(r, me, 11, start, r->at, parent, 0);
     return 1;
 }
@@ -530,6 +544,7 @@ static int value(R *r, uint32_t parent) {
 static int attribute(R *r, uint32_t parent) {
     if (here(r) == '{') return braces(r, parent, ATTRIBUTE);
     size_t me = r->k++, start = r->at;
+    r->depth++;
     if (!attribute_name(r, me)) return 0;
     size_t e = r->at;
     if (!blanks(r)) return 0;
@@ -538,6 +553,7 @@ static int attribute(R *r, uint32_t parent) {
         if (!blanks(r) || !value(r, me)) return 0;
     } else
         r->at = e;
+    r->depth--;
     put(r, me, 8, start, r->at, parent, 0);
     return 1;
 }
@@ -545,6 +561,7 @@ static int attribute(R *r, uint32_t parent) {
 /* The rest of an opening tag, from its name on; *paired: whether content follows. */
 static int opening(R *r, size_t start, uint32_t me, Span *name, int *paired) {
     size_t tag = r->k++;
+    r->depth++;
     *paired = 1;
     if (here(r) != '>') {
         if (!element_name(r, tag, name)) return 0;
@@ -560,6 +577,7 @@ static int opening(R *r, size_t start, uint32_t me, Span *name, int *paired) {
         if (!blanks(r)) return 0;
     }
     if (!expect(r, '>')) return 0;
+    r->depth--;
     put(r, tag, 18, start, r->at, me, 0);
     return 1;
 }
@@ -569,6 +587,7 @@ static int closing(R *r, uint32_t me, int fragment, Span name, Span open) {
     size_t q = r->at;
     if (!expect(r, '<') || !blanks(r) || !expect(r, '/') || !blanks(r)) return 0;
     size_t tag = r->k++;
+    r->depth++;
     if (here(r) == '>') {
         r->at++;
         if (!fragment) return no(r, 9, name.a, name.b, q, r->at);
@@ -578,6 +597,7 @@ static int closing(R *r, uint32_t me, int fragment, Span name, Span open) {
         if (fragment) return no(r, 8, open.a, open.b, end.a, end.b);
         if (!same_name(r, name, end)) return no(r, 7, name.a, name.b, end.a, end.b);
     }
+    r->depth--;
     put(r, tag, 17, q, r->at, me, 0);
     return 1;
 }
@@ -591,12 +611,14 @@ static int element(R *r, uint32_t parent) {
     r->left--;
     int fragment = b == '>';
     size_t me = r->k++;
+    r->depth++;
     Span name = {0, 0};
     if (!opening(r, start, me, &name, &paired)) return 0;
     if (paired) {
         Span open = {start, r->at};
         if (!children(r, me) || !closing(r, me, fragment, name, open)) return 0;
     }
+    r->depth--;
     put(r, me, fragment ? 2 : 1, start, r->at, parent, paired && !fragment);
     r->left++;
     return 1;
@@ -649,6 +671,7 @@ typedef int Reading(R *r);
 static uint32_t pass(Reading *reading, R *r, uint32_t *table) {
     r->at = r->k = 0;
     r->left = DEPTH;
+    r->depth = 0;
     r->t = table;
     if (!reading(r)) return r->number;
     no(r, 0, r->k, 0, 0, 0);
@@ -666,7 +689,7 @@ static uint32_t check(Reading *reading, R *r) {
 static uint32_t read(Reading *reading, R *r, uint32_t *table, size_t words) {
     uint32_t number = check(reading, r);
     if (number) return number;
-    if (words / 6 < r->k) return 15; /* its first value is the count */
+    if (words / ROW < r->k) return 15; /* its first value is the count */
     return pass(reading, r, table);
 }
 

@@ -9,6 +9,9 @@
 #define PLAIN(name) plain_##name
 #endif
 
+/* The words of a record. */
+#define ROW 7
+
 uint32_t PLAIN(check_stage)(const uint8_t *input, size_t length, size_t values[4]);
 uint32_t PLAIN(check_run)(const uint8_t *input, size_t length, size_t values[4]);
 uint32_t PLAIN(read_stage)(const uint8_t *input, size_t length, uint32_t *table, size_t words, size_t values[4]);

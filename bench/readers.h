@@ -37,7 +37,7 @@ static const Reader readers[] = {
 #endif
 };
 
-enum { READERS = sizeof readers / sizeof *readers, ROW = 6, INPUT_LIMIT = 1048576, TABLE_WORDS = ROW * INPUT_LIMIT };
+enum { READERS = sizeof readers / sizeof *readers, INPUT_LIMIT = 1048576, TABLE_WORDS = ROW * INPUT_LIMIT };
 
 static inline void fail(const char *why, const char *what) {
     fprintf(stderr, "%s: %s\n", why, what);
