@@ -71,7 +71,7 @@ extern "C" {
 #define LORIKVAR_MOST_DEPTH 64
 
 /* The words of a record, and the parent of a record that stands in none. */
-#define LORIKVAR_ROW_WORDS 6
+#define LORIKVAR_ROW_WORDS 7
 #define LORIKVAR_NO_PARENT 0xFFFFFFFFu
 
 /* The elements of `values` and of `part`. */
@@ -181,7 +181,10 @@ enum lorikvar_word {
     /* The number of the first record past all that it holds. */
     LORIKVAR_WORD_AFTER = 4,
     /* 0 or 1, as said at enum lorikvar_kind. */
-    LORIKVAR_WORD_EXTRA = 5
+    LORIKVAR_WORD_EXTRA = 5,
+    /* The number of its ancestors: 0 for an outermost record, else its parent's plus 1. Records are counted, tags,
+     * attributes, containers and expressions among them; so it is not the depth that LORIKVAR_MOST_DEPTH limits. */
+    LORIKVAR_WORD_DEPTH = 6
 };
 
 /*

@@ -8,17 +8,9 @@ use lorikvar::{read_stage_vec, Record};
 use std::io::Read;
 use std::process::ExitCode;
 
-fn print(record: Record<'_, '_>, depth: usize) {
-    println!(
-        "{:indent$}{} {:?}",
-        "",
-        record.kind(),
-        record.text(),
-        indent = 2 * depth
-    );
-    for child in record.children() {
-        print(child, depth + 1);
-    }
+fn print(record: Record<'_, '_>) {
+    let indent = 2 * record.depth();
+    println!("{:indent$}{} {:?}", "", record.kind(), record.text());
 }
 
 fn main() -> ExitCode {
@@ -28,10 +20,7 @@ fn main() -> ExitCode {
         return ExitCode::FAILURE;
     }
     match read_stage_vec(&input) {
-        Ok(owned) => owned
-            .table()
-            .outermost()
-            .for_each(|record| print(record, 0)),
+        Ok(owned) => owned.table().records().for_each(print),
         Err(refusal) => {
             eprintln!("{refusal}");
             return ExitCode::FAILURE;

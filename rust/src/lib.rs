@@ -65,8 +65,8 @@ pub const MOST_BYTES: usize = 1_048_576;
 /// The most levels of depth.
 pub const MOST_DEPTH: usize = 64;
 
-/// The words of a record: kind, start, end, parent, after, extra.
-pub const ROW_WORDS: usize = 6;
+/// The words of a record: kind, start, end, parent, after, extra, depth.
+pub const ROW_WORDS: usize = 7;
 
 /// The word for the parent of a record that stands in none.
 pub const NO_PARENT: u32 = u32::MAX;

@@ -28,9 +28,10 @@ pub fn check_run(input: &[u8]) -> Result<usize, Refusal> {
     count(ffi::check_run(input))
 }
 
-/// Reads a stage into the words that are lent, six for each record.
+/// Reads a stage into the words that are lent, [`ROW_WORDS`] for each record.
 ///
-/// A refusal writes no word; words beyond the last record stay as they were; `w` words hold `w / 6` records.
+/// A refusal writes no word; words beyond the last record stay as they were; `w` words hold `w / ROW_WORDS`
+/// records, rounded down.
 ///
 /// ```
 /// use lorikvar::{read_stage, Refusal, ROW_WORDS};
@@ -38,7 +39,7 @@ pub fn check_run(input: &[u8]) -> Result<usize, Refusal> {
 /// let mut words = [0; 100 * ROW_WORDS];
 /// let table = read_stage(b"<v>hi</v>", &mut words)?;
 /// assert_eq!(table.record(3).map(|record| record.text()), Some("hi"));
-/// assert_eq!(read_stage(b"<a/>", &mut words[..17]).err(), Some(Refusal::TableTooSmall { needed: 3 }));
+/// assert_eq!(read_stage(b"<a/>", &mut words[..20]).err(), Some(Refusal::TableTooSmall { needed: 3 }));
 /// # Ok::<(), Refusal>(())
 /// ```
 ///

@@ -54,9 +54,24 @@ impl<'i, 't> Record<'i, 't> {
         self.word(Word::After)
     }
 
-    /// The last word: 1 for a paired element, and for an identifier, reference or other part with a dash; else 0.
+    /// 1 for a paired element, and for an identifier, reference or other part with a dash; else 0.
     pub fn extra(&self) -> u32 {
         self.table.word(self.number, Word::Extra)
+    }
+
+    /// The number of its ancestors: 0 for an outermost record, else its parent's plus 1.
+    ///
+    /// Records are counted, tags, attributes, containers and expressions among them; parentheses and operators have
+    /// none. So it is not the depth that [`MOST_DEPTH`](crate::MOST_DEPTH) limits.
+    ///
+    /// ```
+    /// let owned = lorikvar::read_run_vec(b"x<v>{(<b/>)}</v>")?;
+    /// let depths: Vec<usize> = owned.table().records().map(|record| record.depth()).collect();
+    /// assert_eq!(depths, [0, 0, 1, 2, 1, 2, 3, 4, 5, 1, 2]);
+    /// # Ok::<(), lorikvar::Refusal>(())
+    /// ```
+    pub fn depth(&self) -> usize {
+        self.word(Word::Depth)
     }
 
     /// Whether it is an element with a closing tag. (A fragment always has one.)
@@ -262,6 +277,7 @@ impl fmt::Debug for Record<'_, '_> {
             .field("parent", &self.parent().map(|parent| parent.number))
             .field("after", &self.after())
             .field("extra", &self.extra())
+            .field("depth", &self.depth())
             .finish()
     }
 }

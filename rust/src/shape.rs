@@ -18,15 +18,17 @@ pub(crate) fn is_table(text: &str, words: &[u32], count: usize) -> bool {
         && (0..count).all(|number| is_row(text, words, count, number).unwrap_or(false))
 }
 
-/// A known kind; a span of whole characters; the record around it, and an end within that one's. The rows
-/// before it are sound already, so walking out from the one before it ends.
+/// A known kind; a span of whole characters; the record around it, an end within that one's, and a depth of one
+/// more. The rows before it are sound already, so walking out from the one before it ends.
 fn is_row(text: &str, words: &[u32], count: usize, number: usize) -> Option<bool> {
-    let [kind, start, end, parent, after, _] = row(words, number)?;
+    let [kind, start, end, parent, after, _, depth] = row(words, number)?;
     let spans = text.get(start as usize..end as usize).is_some();
-    let around = around(words, number)?;
-    let (outer, limit) = match around {
-        Some(outer) => (outer as u32, row(words, outer)?[4] as usize),
-        None => (NO_PARENT, count),
+    let (outer, limit, ancestors) = match around(words, number)? {
+        Some(outer) => {
+            let [_, _, _, _, after, _, depth] = row(words, outer)?;
+            (outer as u32, after as usize, depth + 1)
+        }
+        None => (NO_PARENT, count, 0),
     };
     let after = after as usize;
     Some(
@@ -34,7 +36,8 @@ fn is_row(text: &str, words: &[u32], count: usize, number: usize) -> Option<bool
             && spans
             && parent == outer
             && number < after
-            && after <= limit,
+            && after <= limit
+            && depth == ancestors,
     )
 }
 
@@ -42,7 +45,7 @@ fn is_row(text: &str, words: &[u32], count: usize, number: usize) -> Option<bool
 fn around(words: &[u32], number: usize) -> Option<Option<usize>> {
     let mut outer = number.checked_sub(1);
     while let Some(record) = outer {
-        let [_, _, _, parent, after, _] = row(words, record)?;
+        let [_, _, _, parent, after, ..] = row(words, record)?;
         if number < after as usize {
             break;
         }
@@ -57,17 +60,17 @@ fn around(words: &[u32], number: usize) -> Option<Option<usize>> {
 
 #[cfg(test)]
 mod tests {
-    use super::is_table;
+    use super::{is_table, Row, ROW_WORDS};
 
     const TEXT: &str = "<v>hi</v>";
 
-    const GOOD: [[u32; 6]; 6] = [
-        [1, 0, 9, u32::MAX, 6, 1],
-        [18, 0, 3, 0, 3, 0],
-        [3, 1, 2, 1, 3, 0],
-        [14, 3, 5, 0, 4, 0],
-        [17, 5, 9, 0, 6, 0],
-        [3, 7, 8, 4, 6, 0],
+    const GOOD: [Row; 6] = [
+        [1, 0, 9, u32::MAX, 6, 1, 0],
+        [18, 0, 3, 0, 3, 0, 1],
+        [3, 1, 2, 1, 3, 0, 2],
+        [14, 3, 5, 0, 4, 0, 1],
+        [17, 5, 9, 0, 6, 0, 1],
+        [3, 7, 8, 4, 6, 0, 2],
     ];
 
     /// Whether the good table is still one with a word of a record changed.
@@ -86,7 +89,7 @@ mod tests {
     #[test]
     fn a_count_past_the_words_is_none() {
         assert!(!is_table(TEXT, &GOOD.concat(), 7));
-        assert!(!is_table(TEXT, &GOOD.concat()[..35], 6));
+        assert!(!is_table(TEXT, &GOOD.concat()[..6 * ROW_WORDS - 1], 6));
         assert!(!is_table(TEXT, &GOOD.concat(), usize::MAX));
     }
 
@@ -105,7 +108,9 @@ mod tests {
     fn spans_are_looked_at() {
         assert!(!changed(0, 2, 10));
         assert!(!changed(3, 1, 6));
-        assert!(!is_table("<v>\u{e9}</v>", &[14, 3, 4, u32::MAX, 1, 0], 1));
+        let one_byte: Row = [14, 3, 4, u32::MAX, 1, 0, 0];
+        assert!(is_table(TEXT, &one_byte, 1));
+        assert!(!is_table("<v>\u{e9}</v>", &one_byte, 1));
     }
 
     #[test]
@@ -124,5 +129,14 @@ mod tests {
         assert!(!changed(1, 4, 1));
         assert!(!changed(1, 4, 4));
         assert!(!changed(5, 4, 5));
+    }
+
+    #[test]
+    fn depths_are_looked_at() {
+        assert!(!changed(0, 6, 1));
+        assert!(!changed(1, 6, 0));
+        assert!(!changed(2, 6, 1));
+        assert!(!changed(5, 6, 3));
+        assert!(!changed(5, 6, u32::MAX));
     }
 }

@@ -15,6 +15,7 @@ pub(crate) enum Word {
     Parent = 3,
     After = 4,
     Extra = 5,
+    Depth = 6,
 }
 
 /// The records of an accepted input: a view of the input and of the words that were read from it.
@@ -41,7 +42,8 @@ impl<'i, 't> Table<'i, 't> {
     /// A table that was read before, from the words that were kept of it.
     ///
     /// `None` unless the input is UTF-8, the words hold `count` records, and these are a tree in preorder whose
-    /// spans are parts of the input. That they are what a read of the input gives is not looked at.
+    /// spans are parts of the input, each with the number of its ancestors. That they are what a read of the input
+    /// gives is not looked at.
     ///
     /// ```
     /// let input = b"<v>hi</v>";
@@ -76,7 +78,7 @@ impl<'i, 't> Table<'i, 't> {
         self.text
     }
 
-    /// The words of the records: six for each, and none beyond the last.
+    /// The words of the records: [`ROW_WORDS`] for each, and none beyond the last.
     pub fn words(&self) -> &'t [u32] {
         &self.words[..self.count * ROW_WORDS]
     }

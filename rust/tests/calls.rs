@@ -15,7 +15,7 @@ fn span(start: usize, end: usize) -> Span {
 
 /// The check and the read refuse alike, and the read leaves its words as they were.
 fn refused_as_stage(input: &[u8], refusal: Refusal) {
-    let mut words = vec![MARK; 600];
+    let mut words = vec![MARK; 100 * ROW_WORDS];
     assert_eq!(check_stage(input), Err(refusal));
     assert_eq!(read_stage(input, &mut words).err(), Some(refusal));
     assert_eq!(read_stage_vec(input).err(), Some(refusal));
@@ -23,7 +23,7 @@ fn refused_as_stage(input: &[u8], refusal: Refusal) {
 }
 
 fn refused_as_run(input: &[u8], refusal: Refusal) {
-    let mut words = vec![MARK; 600];
+    let mut words = vec![MARK; 100 * ROW_WORDS];
     assert_eq!(check_run(input), Err(refusal));
     assert_eq!(read_run(input, &mut words).err(), Some(refusal));
     assert_eq!(read_run_vec(input).err(), Some(refusal));
@@ -32,19 +32,19 @@ fn refused_as_run(input: &[u8], refusal: Refusal) {
 
 #[test]
 fn document_01_s_table_is_read_whole() {
-    let mut words = [MARK; 40];
+    let mut words = [MARK; 6 * ROW_WORDS + 4];
     let table = read_stage(b"<v>hi</v>", &mut words).unwrap();
     let rows: Vec<&[u32]> = table.words().chunks(ROW_WORDS).collect();
     let expected: [[u32; ROW_WORDS]; 6] = [
-        [1, 0, 9, NO_PARENT, 6, 1],
-        [18, 0, 3, 0, 3, 0],
-        [3, 1, 2, 1, 3, 0],
-        [14, 3, 5, 0, 4, 0],
-        [17, 5, 9, 0, 6, 0],
-        [3, 7, 8, 4, 6, 0],
+        [1, 0, 9, NO_PARENT, 6, 1, 0],
+        [18, 0, 3, 0, 3, 0, 1],
+        [3, 1, 2, 1, 3, 0, 2],
+        [14, 3, 5, 0, 4, 0, 1],
+        [17, 5, 9, 0, 6, 0, 1],
+        [3, 7, 8, 4, 6, 0, 2],
     ];
     assert_eq!(rows, expected);
-    assert_eq!(words[36..], [MARK; 4]);
+    assert_eq!(words[6 * ROW_WORDS..], [MARK; 4]);
 }
 
 #[test]
@@ -131,10 +131,11 @@ fn limits_of_length_and_depth() {
 
 #[test]
 fn tables_of_any_length() {
-    for length in 0..=20 {
-        let mut words = [MARK; 26];
+    const ROOM: usize = 4 * ROW_WORDS;
+    for length in 0..ROOM {
+        let mut words = [MARK; ROOM];
         let stage = read_stage(b"<a/>", &mut words[..length]).map(|table| table.len());
-        let run = read_run(b"<a/>", &mut [MARK; 26][..length]).map(|table| table.len());
+        let run = read_run(b"<a/>", &mut [MARK; ROOM][..length]).map(|table| table.len());
         let fits = 3 <= length / ROW_WORDS;
         let expected = if fits {
             Ok(3)
@@ -142,7 +143,7 @@ fn tables_of_any_length() {
             Err(Refusal::TableTooSmall { needed: 3 })
         };
         assert_eq!((stage, run), (expected, expected), "{length} words");
-        let written = if fits { 18 } else { 0 };
+        let written = if fits { 3 * ROW_WORDS } else { 0 };
         assert!(
             words[written..].iter().all(|word| *word == MARK),
             "{length} words"
@@ -183,7 +184,7 @@ fn records_in_range_and_out_of_it() {
     assert_eq!(record_bytes(input, &words, 6, 5), Some(&b"v"[..]));
     assert_eq!(record_bytes(input, &words, 6, 6), None);
     assert_eq!(record_bytes(input, &words, 5, 5), None);
-    assert_eq!(record_bytes(input, &words[..35], 6, 5), None);
+    assert_eq!(record_bytes(input, &words[..words.len() - 1], 6, 5), None);
     assert_eq!(record_bytes(&input[..7], &words, 6, 5), None);
     assert_eq!(
         record_bytes(input, &words, usize::MAX, usize::MAX - 1),

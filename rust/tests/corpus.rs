@@ -99,7 +99,7 @@ fn every_answer_is_the_stored_one() {
 }
 
 /// The kept words are a table; each record's bytes and text are its span; a record's children and theirs are
-/// all that it holds.
+/// all that it holds; a child is one deeper.
 fn is_a_tree(place: usize, item: &[u8], table: Table<'_, '_>) {
     assert!(item.len() <= MOST_BYTES);
     assert!(
@@ -114,15 +114,12 @@ fn is_a_tree(place: usize, item: &[u8], table: Table<'_, '_>) {
             .map(|child| 1 + child.descendants().len())
             .sum();
         assert_eq!(inside, record.descendants().len(), "item {place}");
-        assert!(
-            record
-                .children()
-                .all(|child| child.parent() == Some(record)),
-            "item {place}"
-        );
+        for child in record.children() {
+            assert_eq!(child.parent(), Some(record), "item {place}");
+            assert_eq!(child.depth(), record.depth() + 1, "item {place}");
+        }
     }
-    assert!(
-        table.outermost().all(|record| record.parent().is_none()),
-        "item {place}"
-    );
+    for record in table.outermost() {
+        assert_eq!((record.parent(), record.depth()), (None, 0), "item {place}");
+    }
 }

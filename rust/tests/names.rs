@@ -143,6 +143,7 @@ fn limits_are_the_header_s() {
         ROW_WORDS,
         number_behind("#define LORIKVAR_ROW_WORDS ", header)
     );
+    assert_eq!(ROW_WORDS, of_header("LORIKVAR_WORD_").len());
     let no_parent = format!("#define LORIKVAR_NO_PARENT 0x{NO_PARENT:X}u");
     assert!(file(header).contains(&no_parent), "{no_parent}");
 }

@@ -33,6 +33,29 @@ fn a_run_has_any_number() {
     );
 }
 
+fn depths(owned: &OwnedTable<'_>) -> Vec<usize> {
+    owned.table().records().map(|r| r.depth()).collect()
+}
+
+#[test]
+fn depth_is_the_number_of_ancestors() {
+    let owned = read();
+    for record in owned.table() {
+        let ancestors = std::iter::successors(record.parent(), Record::parent);
+        assert_eq!(record.depth(), ancestors.count(), "{record:?}");
+    }
+    assert_eq!(depths(&read_run_vec(b"x<a/>").unwrap()), [0, 0, 1, 2]);
+    let parentheses = read_stage_vec(b"<a>{((<b/>))}</a>").unwrap();
+    assert_eq!(depths(&parentheses), [0, 1, 2, 1, 2, 3, 4, 5, 1, 2]);
+}
+
+#[test]
+fn the_greatest_depth_is_193() {
+    let input = "<a b=".repeat(63) + "<a b:c/>" + &"/>".repeat(63);
+    let owned = read_stage_vec(input.as_bytes()).unwrap();
+    assert_eq!(depths(&owned).into_iter().max(), Some(193));
+}
+
 #[test]
 fn children_are_tags_and_content() {
     let owned = read();
@@ -199,7 +222,8 @@ fn records_of_two_tables_differ() {
 #[test]
 fn debug_shows_a_record() {
     let owned = read_run_vec(b"hi").unwrap();
-    let expected = "Record { number: 0, kind: Text, span: 0..2, parent: None, after: 1, extra: 0 }";
+    let expected =
+        "Record { number: 0, kind: Text, span: 0..2, parent: None, after: 1, extra: 0, depth: 0 }";
     assert_eq!(format!("{:?}", owned.table().record(0).unwrap()), expected);
     assert_eq!(format!("{owned:?}"), format!("[{expected}]"));
 }
