@@ -1,6 +1,7 @@
 /* Inputs that are accepted, with their whole tables. */
 #include "check.h"
 
+#include <stdlib.h>
 #include <string.h>
 
 #define MOST 24
@@ -13,75 +14,101 @@ struct accepted {
     uint32_t rows[MOST][LORIKVAR_ROW_WORDS];
 };
 
-/* kind, start, end, parent, after, extra; worked out by hand from document 01. */
+/* kind, start, end, parent, after, extra, depth; worked out by hand from documents 01 and 02. */
 static const struct accepted cases[] = {
-    {'s', "<a/>", 3, {{1, 0, 4, NONE, 3, 0}, {18, 0, 4, 0, 3, 0}, {3, 1, 2, 1, 3, 0}}},
+    {'s', "<a/>", 3, {{1, 0, 4, NONE, 3, 0, 0}, {18, 0, 4, 0, 3, 0, 1}, {3, 1, 2, 1, 3, 0, 2}}},
     {'s',
      "<v>hi</v>",
      6,
-     {{1, 0, 9, NONE, 6, 1},
-      {18, 0, 3, 0, 3, 0},
-      {3, 1, 2, 1, 3, 0},
-      {14, 3, 5, 0, 4, 0},
-      {17, 5, 9, 0, 6, 0},
-      {3, 7, 8, 4, 6, 0}}},
+     {{1, 0, 9, NONE, 6, 1, 0},
+      {18, 0, 3, 0, 3, 0, 1},
+      {3, 1, 2, 1, 3, 0, 2},
+      {14, 3, 5, 0, 4, 0, 1},
+      {17, 5, 9, 0, 6, 0, 1},
+      {3, 7, 8, 4, 6, 0, 2}}},
     {'s',
      "<a-b.c/>",
      5,
-     {{1, 0, 8, NONE, 5, 0}, {18, 0, 8, 0, 5, 0}, {7, 1, 6, 1, 5, 0}, {4, 1, 4, 2, 4, 1}, {16, 5, 6, 2, 5, 0}}},
+     {{1, 0, 8, NONE, 5, 0, 0},
+      {18, 0, 8, 0, 5, 0, 1},
+      {7, 1, 6, 1, 5, 0, 2},
+      {4, 1, 4, 2, 4, 1, 3},
+      {16, 5, 6, 2, 5, 0, 3}}},
     {'s',
      "<a>{}</a>",
      7,
-     {{1, 0, 9, NONE, 7, 1},
-      {18, 0, 3, 0, 3, 0},
-      {3, 1, 2, 1, 3, 0},
-      {11, 3, 5, 0, 5, 0},
-      {12, 4, 4, 3, 5, 0},
-      {17, 5, 9, 0, 7, 0},
-      {3, 7, 8, 5, 7, 0}}},
+     {{1, 0, 9, NONE, 7, 1, 0},
+      {18, 0, 3, 0, 3, 0, 1},
+      {3, 1, 2, 1, 3, 0, 2},
+      {11, 3, 5, 0, 5, 0, 1},
+      {12, 4, 4, 3, 5, 0, 2},
+      {17, 5, 9, 0, 7, 0, 1},
+      {3, 7, 8, 5, 7, 0, 2}}},
     {'s',
      "<a b=\"\\\"/>",
      6,
-     {{1, 0, 10, NONE, 6, 0},
-      {18, 0, 10, 0, 6, 0},
-      {3, 1, 2, 1, 3, 0},
-      {8, 3, 8, 1, 6, 0},
-      {16, 3, 4, 3, 5, 0},
-      {10, 5, 8, 3, 6, 0}}},
+     {{1, 0, 10, NONE, 6, 0, 0},
+      {18, 0, 10, 0, 6, 0, 1},
+      {3, 1, 2, 1, 3, 0, 2},
+      {8, 3, 8, 1, 6, 0, 2},
+      {16, 3, 4, 3, 5, 0, 3},
+      {10, 5, 8, 3, 6, 0, 3}}},
     {'s',
      "<foo.bar/>",
      5,
-     {{1, 0, 10, NONE, 5, 0}, {18, 0, 10, 0, 5, 0}, {7, 1, 8, 1, 5, 0}, {4, 1, 4, 2, 4, 0}, {16, 5, 8, 2, 5, 0}}},
+     {{1, 0, 10, NONE, 5, 0, 0},
+      {18, 0, 10, 0, 5, 0, 1},
+      {7, 1, 8, 1, 5, 0, 2},
+      {4, 1, 4, 2, 4, 0, 3},
+      {16, 5, 8, 2, 5, 0, 3}}},
     /* The kinds that stand in none of the above: 2, 5, 6, 9, 13, 15. */
     {'s',
      "<this x:y-z {...p}>{...q}{<></>}</this>",
      18,
-     {{1, 0, 39, NONE, 18, 1},
-      {18, 0, 19, 0, 9, 0},
-      {5, 1, 5, 1, 3, 0},
-      {8, 6, 11, 1, 7, 0},
-      {6, 6, 11, 3, 7, 0},
-      {16, 6, 7, 4, 6, 0},
-      {16, 8, 11, 4, 7, 1},
-      {9, 12, 18, 1, 9, 0},
-      {15, 16, 17, 7, 9, 0},
-      {13, 19, 25, 0, 11, 0},
-      {15, 23, 24, 9, 11, 0},
-      {11, 25, 32, 0, 16, 0},
-      {15, 26, 31, 11, 16, 0},
-      {2, 26, 31, 12, 16, 0},
-      {18, 26, 28, 13, 15, 0},
-      {17, 28, 31, 13, 16, 0},
-      {17, 32, 39, 0, 18, 0},
-      {5, 34, 38, 16, 18, 0}}},
-    {'r', "", 0, {{0, 0, 0, 0, 0, 0}}},
-    {'r', "hi", 1, {{14, 0, 2, NONE, 1, 0}}},
-    {'r', "yo", 1, {{14, 0, 2, NONE, 1, 0}}},
-    {'r', "hiyo", 1, {{14, 0, 4, NONE, 1, 0}}},
+     {{1, 0, 39, NONE, 18, 1, 0},
+      {18, 0, 19, 0, 9, 0, 1},
+      {5, 1, 5, 1, 3, 0, 2},
+      {8, 6, 11, 1, 7, 0, 2},
+      {6, 6, 11, 3, 7, 0, 3},
+      {16, 6, 7, 4, 6, 0, 4},
+      {16, 8, 11, 4, 7, 1, 4},
+      {9, 12, 18, 1, 9, 0, 2},
+      {15, 16, 17, 7, 9, 0, 3},
+      {13, 19, 25, 0, 11, 0, 1},
+      {15, 23, 24, 9, 11, 0, 2},
+      {11, 25, 32, 0, 16, 0, 1},
+      {15, 26, 31, 11, 16, 0, 2},
+      {2, 26, 31, 12, 16, 0, 3},
+      {18, 26, 28, 13, 15, 0, 4},
+      {17, 28, 31, 13, 16, 0, 4},
+      {17, 32, 39, 0, 18, 0, 1},
+      {5, 34, 38, 16, 18, 0, 2}}},
+    /* Parentheses are no records. */
+    {'s',
+     "<a>{((<b/>))}</a>",
+     10,
+     {{1, 0, 17, NONE, 10, 1, 0},
+      {18, 0, 3, 0, 3, 0, 1},
+      {3, 1, 2, 1, 3, 0, 2},
+      {11, 3, 13, 0, 8, 0, 1},
+      {15, 4, 12, 3, 8, 0, 2},
+      {1, 6, 10, 4, 8, 0, 3},
+      {18, 6, 10, 5, 8, 0, 4},
+      {3, 7, 8, 6, 8, 0, 5},
+      {17, 13, 17, 0, 10, 0, 1},
+      {3, 15, 16, 8, 10, 0, 2}}},
+    {'r', "", 0, {{0, 0, 0, 0, 0, 0, 0}}},
+    {'r', "hi", 1, {{14, 0, 2, NONE, 1, 0, 0}}},
+    {'r', "yo", 1, {{14, 0, 2, NONE, 1, 0, 0}}},
+    {'r', "hiyo", 1, {{14, 0, 4, NONE, 1, 0, 0}}},
     {'r',
      "<a/> x",
      4,
-     {{1, 0, 4, NONE, 3, 0}, {18, 0, 4, 0, 3, 0}, {3, 1, 2, 1, 3, 0}, {14, 4, 6, NONE, 4, 0}}}
+     {{1, 0, 4, NONE, 3, 0, 0}, {18, 0, 4, 0, 3, 0, 1}, {3, 1, 2, 1, 3, 0, 2}, {14, 4, 6, NONE, 4, 0, 0}}},
+    {'r',
+     "x<a/>",
+     4,
+     {{14, 0, 1, NONE, 1, 0, 0}, {1, 1, 5, NONE, 4, 0, 0}, {18, 1, 5, 1, 4, 0, 1}, {3, 2, 3, 2, 4, 0, 2}}}
 };
 
 /* The check counts, and the read writes just these words, into a table of as many words and into one of more. */
@@ -103,12 +130,30 @@ static void one(const struct accepted *c, size_t more)
     CHECK(marks_stand(table, words, MOST * LORIKVAR_ROW_WORDS));
 }
 
+/* The most ancestors that a record can have: three for each element around a value, and four more in the last. */
+static void greatest_depth(void)
+{
+    char *input = nested("<a b=", LORIKVAR_MOST_DEPTH - 1, "<a b:c/>", "/>");
+    size_t count = 5 * (LORIKVAR_MOST_DEPTH - 1) + 7;
+    size_t words = count * LORIKVAR_ROW_WORDS;
+    uint32_t *table = malloc(words * sizeof *table);
+    size_t values[LORIKVAR_VALUES];
+    about("the greatest depth");
+    CHECK(table != NULL);
+    CHECK(lorikvar_read_stage(bytes(input), strlen(input), table, words, values) == LORIKVAR_ACCEPTED);
+    CHECK(values_are(values, count, 0, 0, 0));
+    CHECK(table[words - LORIKVAR_ROW_WORDS + LORIKVAR_WORD_DEPTH] == 193);
+    free(table);
+    free(input);
+}
+
 void test_accepted(void)
 {
     size_t k;
     for (k = 0; k < sizeof cases / sizeof cases[0]; k++) {
         one(&cases[k], 0);
-        one(&cases[k], 5);
-        one(&cases[k], 6);
+        one(&cases[k], LORIKVAR_ROW_WORDS - 1);
+        one(&cases[k], LORIKVAR_ROW_WORDS);
     }
+    greatest_depth();
 }

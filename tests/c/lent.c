@@ -36,12 +36,13 @@ static void null_and_none(void)
 /* Lent twice to be read: the table's own bytes as the input, and one input that starts anywhere within another. */
 static void lent_twice(void)
 {
-    uint32_t table[] = {1, 4, 20, LORIKVAR_NO_PARENT, 1, 0};
+    uint32_t table[LORIKVAR_ROW_WORDS] = {1, 4, 20, LORIKVAR_NO_PARENT, 1};
     const uint8_t *same = (const uint8_t *)table;
     size_t values[LORIKVAR_VALUES], part[LORIKVAR_PART], k;
     about("lent twice to be read");
-    CHECK(lorikvar_record_bytes(same, sizeof table, table, 6, 1, 0, part) && part[0] == 4 && part[1] == 20);
-    CHECK(table[0] == 1 && table[1] == 4 && table[2] == 20 && table[4] == 1 && table[5] == 0);
+    CHECK(lorikvar_record_bytes(same, sizeof table, table, LORIKVAR_ROW_WORDS, 1, 0, part));
+    CHECK(part[0] == 4 && part[1] == 20);
+    CHECK(table[0] == 1 && table[1] == 4 && table[2] == 20 && table[4] == 1 && table[5] == 0 && table[6] == 0);
     for (k = 0; k < 8; k++) {
         char room[16] = "";
         memcpy(room + k, "<a/>", 4);
@@ -116,16 +117,18 @@ static void input_not_read(void)
 {
     size_t length = (size_t)LORIKVAR_MOST_BYTES + 1;
     uint8_t *input = mmap(NULL, length, PROT_NONE, MAP_PRIVATE | MAP_ANONYMOUS, -1, 0);
-    uint32_t table[] = {1, 4, 20, LORIKVAR_NO_PARENT, 1, 0};
+    uint32_t table[LORIKVAR_ROW_WORDS] = {1, 4, 20, LORIKVAR_NO_PARENT, 1};
     size_t values[LORIKVAR_VALUES], part[LORIKVAR_PART];
     about("an input that may not be read");
     CHECK(input != MAP_FAILED);
     CHECK(lorikvar_check_stage(input, length, values) == LORIKVAR_REFUSAL_TOO_LONG && values_are(values, 0, 0, 0, 0));
     CHECK(lorikvar_check_run(input, length, values) == LORIKVAR_REFUSAL_TOO_LONG && values_are(values, 0, 0, 0, 0));
-    CHECK(lorikvar_read_stage(input, length, table, 6, values) == LORIKVAR_REFUSAL_TOO_LONG && table[1] == 4);
-    CHECK(lorikvar_read_run(input, length, table, 6, values) == LORIKVAR_REFUSAL_TOO_LONG && table[1] == 4);
+    CHECK(lorikvar_read_stage(input, length, table, LORIKVAR_ROW_WORDS, values) == LORIKVAR_REFUSAL_TOO_LONG);
+    CHECK(lorikvar_read_run(input, length, table, LORIKVAR_ROW_WORDS, values) == LORIKVAR_REFUSAL_TOO_LONG);
+    CHECK(table[1] == 4);
     CHECK(lorikvar_span_bytes(input, length, 7, length, part) && part[0] == 7 && part[1] == length);
-    CHECK(lorikvar_record_bytes(input, length, table, 6, 1, 0, part) && part[0] == 4 && part[1] == 20);
+    CHECK(lorikvar_record_bytes(input, length, table, LORIKVAR_ROW_WORDS, 1, 0, part));
+    CHECK(part[0] == 4 && part[1] == 20);
     CHECK(munmap(input, length) == 0);
 }
 

@@ -6,7 +6,7 @@
 static const char stage[] = "<v>hi</v>";
 
 #define LENGTH (sizeof stage - 1)
-#define WORDS 40
+#define WORDS (7 * LORIKVAR_ROW_WORDS)
 
 static int part_is(const size_t *part, size_t start, size_t end)
 {
@@ -53,17 +53,17 @@ static void records(void)
     CHECK(!bytes_of(table, WORDS, 6, 6, part) && part_is(part, 0, 0));
     CHECK(!bytes_of(table, WORDS, 0, 0, part) && part_is(part, 0, 0));
     CHECK(!bytes_of(table, WORDS, SIZE_MAX, SIZE_MAX - 1, part) && part_is(part, 0, 0));
-    CHECK(!bytes_of(table, WORDS, SIZE_MAX, SIZE_MAX / 6 + 1, part) && part_is(part, 0, 0));
+    CHECK(!bytes_of(table, WORDS, SIZE_MAX, SIZE_MAX / LORIKVAR_ROW_WORDS + 1, part) && part_is(part, 0, 0));
 }
 
-/* A table of w words holds w / 6 records, whatever the count says. */
+/* A table of w words holds w / LORIKVAR_ROW_WORDS records, whatever the count says. */
 static void past_the_table(void)
 {
     uint32_t table[WORDS];
     size_t values[LORIKVAR_VALUES], part[LORIKVAR_PART], w;
     about("records past the table");
     CHECK(lorikvar_read_stage(bytes(stage), LENGTH, table, WORDS, values) == LORIKVAR_ACCEPTED);
-    for (w = 0; w <= 20; w++) {
+    for (w = 0; w < 4 * LORIKVAR_ROW_WORDS; w++) {
         int good = 3 <= w / LORIKVAR_ROW_WORDS;
         CHECK(bytes_of(table, w, 6, 2, part) == good);
         CHECK(good ? part_is(part, 1, 2) : part_is(part, 0, 0));
@@ -73,16 +73,16 @@ static void past_the_table(void)
 /* Words that no read wrote: a span that is not in the input is out of range, and any other is taken as it stands. */
 static void any_words(void)
 {
-    uint32_t backwards[] = {1, 5, 4, 0, 0, 0};
-    uint32_t outside[] = {1, 0, LENGTH + 1, 0, 0, 0};
-    uint32_t largest[] = {1, UINT32_MAX, UINT32_MAX, 0, 0, 0};
-    uint32_t unknown[] = {77, 2, LENGTH, 0, 0, 0};
+    uint32_t backwards[LORIKVAR_ROW_WORDS] = {1, 5, 4};
+    uint32_t outside[LORIKVAR_ROW_WORDS] = {1, 0, LENGTH + 1};
+    uint32_t largest[LORIKVAR_ROW_WORDS] = {1, UINT32_MAX, UINT32_MAX};
+    uint32_t unknown[LORIKVAR_ROW_WORDS] = {77, 2, LENGTH};
     size_t part[LORIKVAR_PART];
     about("any words");
-    CHECK(!bytes_of(backwards, 6, 1, 0, part) && part_is(part, 0, 0));
-    CHECK(!bytes_of(outside, 6, 1, 0, part) && part_is(part, 0, 0));
-    CHECK(!bytes_of(largest, 6, 1, 0, part) && part_is(part, 0, 0));
-    CHECK(bytes_of(unknown, 6, 1, 0, part) && part_is(part, 2, LENGTH));
+    CHECK(!bytes_of(backwards, LORIKVAR_ROW_WORDS, 1, 0, part) && part_is(part, 0, 0));
+    CHECK(!bytes_of(outside, LORIKVAR_ROW_WORDS, 1, 0, part) && part_is(part, 0, 0));
+    CHECK(!bytes_of(largest, LORIKVAR_ROW_WORDS, 1, 0, part) && part_is(part, 0, 0));
+    CHECK(bytes_of(unknown, LORIKVAR_ROW_WORDS, 1, 0, part) && part_is(part, 2, LENGTH));
 }
 
 void test_parts(void)

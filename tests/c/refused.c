@@ -4,7 +4,7 @@
 #include <stdlib.h>
 #include <string.h>
 
-#define WORDS 600
+#define WORDS (100 * LORIKVAR_ROW_WORDS)
 
 struct refused {
     char reading;

@@ -1,7 +1,8 @@
-/* Tables of any length: w words hold w / 6 records, and what is not a record's stays as it was. */
+/* Tables of any length: w words hold w / LORIKVAR_ROW_WORDS records, and what is not a record's stays as it was. */
 #include "check.h"
 
-#define ROOM 26
+/* Room for four records. */
+#define ROOM (4 * LORIKVAR_ROW_WORDS)
 
 /* An input of three records into a table of w words, which stands in a larger one. */
 static void into(char reading, size_t w)
@@ -23,6 +24,7 @@ static void into(char reading, size_t w)
     CHECK(room[LORIKVAR_WORD_KIND] == LORIKVAR_KIND_ELEMENT);
     CHECK(room[LORIKVAR_WORD_PARENT] == LORIKVAR_NO_PARENT);
     CHECK(room[2 * LORIKVAR_ROW_WORDS + LORIKVAR_WORD_EXTRA] == 0);
+    CHECK(room[2 * LORIKVAR_ROW_WORDS + LORIKVAR_WORD_DEPTH] == 2);
     CHECK(marks_stand(room, 3 * LORIKVAR_ROW_WORDS, ROOM));
 }
 
@@ -45,15 +47,15 @@ static void refused_before_15(void)
     size_t values[LORIKVAR_VALUES];
     mark_words(room, ROOM);
     CHECK(lorikvar_read_stage(bytes("<a>"), 3, room, 0, values) == LORIKVAR_REFUSAL_END_OF_INPUT);
-    CHECK(lorikvar_read_run(bytes("<a>"), 3, room, 5, values) == LORIKVAR_REFUSAL_END_OF_INPUT);
+    CHECK(lorikvar_read_run(bytes("<a>"), 3, room, 1, values) == LORIKVAR_REFUSAL_END_OF_INPUT);
     CHECK(marks_stand(room, 0, ROOM));
 }
 
 void test_tables(void)
 {
     size_t w;
-    about("tables of 0 to 20 words");
-    for (w = 0; w <= 20; w++) {
+    about("tables of fewer words than four records have");
+    for (w = 0; w < ROOM; w++) {
         into('s', w);
         into('r', w);
         empty_run_into(w);

@@ -8,7 +8,7 @@
 #define THREADS 4
 #define INPUTS 4
 #define TURNS 500
-#define WORDS 120
+#define WORDS (20 * LORIKVAR_ROW_WORDS)
 
 static const char *const inputs[INPUTS] = {
     "<v>hi</v>", "<a b={c ? <d/> : e}>{...f}</a>", "<v></w>", "<x.y z:w='1'>{}</x.y>"

@@ -54,26 +54,37 @@ uint32_t lorikvar_check_run(const uint8_t *input, size_t length, size_t values[L
     return said(right_check_run(input, length, values), values);
 }
 
+/* A word of a record. */
+static uint32_t *word(uint32_t *table, size_t record, enum lorikvar_word place)
+{
+    return table + record * LORIKVAR_ROW_WORDS + place;
+}
+
 /* A fault in what a read does with its table and its stack. */
 static uint32_t wrote(uint32_t number, uint32_t *table, size_t words, const size_t *values)
 {
+    size_t k;
     if (WRONG == 10 && number != 0 && words > 0) /* a refusal writes a word */
         table[0] = 1;
-    if (WRONG == 11 && number == 0 && words > 6 * values[0]) /* a word beyond the last record */
-        table[6 * values[0]] = 0;
+    if (WRONG == 11 && number == 0 && words > LORIKVAR_ROW_WORDS * values[0]) /* a word beyond the last record */
+        *word(table, values[0], LORIKVAR_WORD_KIND) = 0;
     if (WRONG == 12 && number == 0 && values[0] > 2) /* the last record's parent is wrong */
-        table[6 * values[0] - 3] = 0;
+        *word(table, values[0] - 1, LORIKVAR_WORD_PARENT) = 0;
     if (WRONG == 13 && number == 0 && values[0] > 0) /* a missing parent is 0 */
-        table[3] = 0;
+        *word(table, 0, LORIKVAR_WORD_PARENT) = 0;
+    for (k = 0; WRONG == 14 && number == 0 && k < values[0]; k++) /* a record is its own ancestor */
+        ++*word(table, k, LORIKVAR_WORD_DEPTH);
+    if (WRONG == 15 && number == 0 && values[0] > 2) /* the last record's depth is that of an outermost one */
+        *word(table, values[0] - 1, LORIKVAR_WORD_DEPTH) = 0;
     return number;
 }
 
 uint32_t lorikvar_read_stage(const uint8_t *input, size_t length, uint32_t *table, size_t words,
                              size_t values[LORIKVAR_VALUES])
 {
-    if (WRONG == 14) /* records rounded up */
-        words = (words + 5) / 6 * 6;
-    if (WRONG == 15) /* the table is looked at before its length is */
+    if (WRONG == 16) /* records rounded up */
+        words = (words + LORIKVAR_ROW_WORDS - 1) / LORIKVAR_ROW_WORDS * LORIKVAR_ROW_WORDS;
+    if (WRONG == 17) /* the table is looked at before its length is */
         look((const uint8_t *)table, 0);
     return wrote(said(right_read_stage(input, length, table, words, values), values), table, words, values);
 }
@@ -81,16 +92,16 @@ uint32_t lorikvar_read_stage(const uint8_t *input, size_t length, uint32_t *tabl
 uint32_t lorikvar_read_run(const uint8_t *input, size_t length, uint32_t *table, size_t words,
                            size_t values[LORIKVAR_VALUES])
 {
-    volatile uint8_t more[WRONG == 16 ? 40000 : 1]; /* more stack than is said */
+    volatile uint8_t more[WRONG == 18 ? 40000 : 1]; /* more stack than is said */
     more[0] = 0;
     return wrote(said(right_read_run(input, length, table, words, values), values), table, words, values) + more[0];
 }
 
 bool lorikvar_span_bytes(const uint8_t *input, size_t length, size_t start, size_t end, size_t part[LORIKVAR_PART])
 {
-    if (WRONG == 17) /* an end one past the input is in range */
+    if (WRONG == 19) /* an end one past the input is in range */
         return right_span_bytes(input, length + 1, start, end, part);
-    if (WRONG == 18 && start > end) /* nothing is said of a span that ends before it starts */
+    if (WRONG == 20 && start > end) /* nothing is said of a span that ends before it starts */
         return false;
     return right_span_bytes(input, length, start, end, part);
 }
@@ -98,11 +109,11 @@ bool lorikvar_span_bytes(const uint8_t *input, size_t length, size_t start, size
 bool lorikvar_record_bytes(const uint8_t *input, size_t length, const uint32_t *table, size_t words, size_t count,
                            size_t number, size_t part[LORIKVAR_PART])
 {
-    if (WRONG == 19) /* the count is passed over */
+    if (WRONG == 21) /* the count is passed over */
         count = SIZE_MAX;
-    if (WRONG == 20) /* a record's span is not held against the input */
+    if (WRONG == 22) /* a record's span is not held against the input */
         length = SIZE_MAX;
-    if (WRONG == 21) /* the record before */
+    if (WRONG == 23) /* the record before */
         number = number > 0 ? number - 1 : 0;
     return right_record_bytes(input, length, table, words, count, number, part);
 }
