@@ -76,7 +76,7 @@ static void any_words(void)
     uint32_t backwards[LORIKVAR_ROW_WORDS] = {1, 5, 4};
     uint32_t outside[LORIKVAR_ROW_WORDS] = {1, 0, LENGTH + 1};
     uint32_t largest[LORIKVAR_ROW_WORDS] = {1, UINT32_MAX, UINT32_MAX};
-    uint32_t unknown[LORIKVAR_ROW_WORDS] = {77, 2, LENGTH};
+    uint32_t unknown[LORIKVAR_ROW_WORDS] = {77, 2, LENGTH, 88, 88, 88, 88};
     size_t part[LORIKVAR_PART];
     about("any words");
     CHECK(!bytes_of(backwards, LORIKVAR_ROW_WORDS, 1, 0, part) && part_is(part, 0, 0));
