@@ -86,7 +86,7 @@ three-stored {k = k} {k₁} {k₂} {a} {b} {c} h₁ h₂ h₃ e₁ e₂ =
       is = h₃ .is ∙ (λ i. set (h₂ .is i) (f₂ i) c) ∙ (λ i. set (set (h₁ .is i) (f₁ i) b) (suc (suc k)) c);
     }
 
-pub ruleset writer-steps = (needs, word-stored, word-out, three-stored)
+
 
 -- ---- rows
 
@@ -191,3 +191,12 @@ pub stored-none : (t : List ℕ) (k : ℕ) (q : Seat) (kind a z x m : ℕ)
     → Stored k q kind a z x m t t
 stored-none t k q kind a z x m h f =
     record { is = sym (sets-out (nodeRow q kind a z x m) t k (omega arith)); small = f }
+
+-- So a row is stored there by changing nothing.
+pub row-out : (t : List ℕ) {q : Seat} {kind a z x : ℕ} (m : ℕ)
+    → Words q kind a z x m
+    → length t ≡ 0
+    → Stored 0 q kind a z x m t t
+row-out t {q} {kind} {a} {z} {x} m w h = stored-none t 0 q kind a z x m h (w .4)
+
+pub ruleset writer-steps = (needs, word-stored, word-out, three-stored, row-out)

@@ -1,10 +1,13 @@
 -- A slot's two words, and the seat that they say.
-use mathlib.Core.Path.{_≡_, ap, _∙_}
+use mathlib.Core.Path.{_≡_, refl, ap, _∙_}
 use mathlib.Core.List.{List, [], _∷_}
 use Prim.Native.Nat.{ℕ, _+_, _/_, _%_, _<_, _^_}
 use native.Mathlib.Omega.{arith}
+use lib.ListN.{set}
 use lib.Seq.{sets}
 use borrow.Author.Needs.{needs}
+use mir.Syntax.{w32}
+use mir.Val.{Fits}
 use Rattle.table.specs.declared.Slot.{Slot}
 use Rattle.table.specs.Slot.{Seat, seat, seatInside, seatBehind}
 use Rattle.table.specs.Contract.{Enterable, Words, Put, Stored}
@@ -63,6 +66,10 @@ module _ (q : Slot) {k a z x : ℕ} (m : ℕ) (w : Words (seat q) k a z x m) whe
   unfolding seat
   parent-word e = let h = w .3 in omega arith
 
+  -- as a cast asks for it;
+  pub parent-fits : Fits w32 (q .parent)
+  parent-fits = let h = parent-word refl in omega arith
+
   -- the depth is,
   pub depth-word : {q₁ : Slot} {d y : ℕ} → d ≡ seat q₁ .depth → q₁ ≡ q → y ≡ d → y < 2 ^ 32
   depth-word e f g =
@@ -78,7 +85,23 @@ module _ (q : Slot) {k a z x : ℕ} (m : ℕ) (w : Words (seat q) k a z x m) whe
     pub after-word : {y b : ℕ} → y ≡ j → b ≡ m → y + (1 + b) < 2 ^ 32
     after-word f g = let h = w .4 in let i = at-number in omega arith
 
-    -- A row is stored as three words, three and one.
+    -- A row is stored word by word;
+    pub whole-stored : {d : ℕ} {q₂ : Slot} {t t′ : List ℕ}
+        → d ≡ seat q₂ .depth
+        → q₂ ≡ q
+        → t′ ≡ set (set (set (set (set (set (set t 0 k) 1 a) 2 z) 3 (q .parent)) 4 (j + (1 + m))) 5 x) 6 d
+        → Stored 0 (seat q) k a z x m t t′
+    unfolding seat
+    whole-stored {t = t} e₄ e₅ h =
+        let after = ap (λ (n : ℕ). n + (1 + m)) at-number in
+        let deep = e₄ ∙ ap (λ (q : Slot). seat q .depth) e₅ in
+        record {
+          is = h
+              ∙ (λ i. set (set (set (set (set (set (set t 0 k) 1 a) 2 z) 3 (q .parent)) 4 (after i)) 5 x) 6 (deep i));
+          small = w .4;
+        }
+
+    -- or as three words, three and one, where it is not known whether they fit.
     pub row-stored : {t t₁ t₂ t₃ : List ℕ} {par g y d v : ℕ} {q₂ : Slot}
         → Put 0 (k ∷ a ∷ z ∷ []) t t₁
         → Put 3 (par ∷ g ∷ y ∷ []) t₁ t₂
@@ -101,6 +124,6 @@ module _ (q : Slot) {k a z x : ℕ} (m : ℕ) (w : Words (seat q) k a z x m) whe
           small = w .4;
         }
 
-pub ruleset row-steps = (needs, parent-word, after-word, row-stored, depth-word)
+pub ruleset row-steps = (needs, parent-word, after-word, depth-word, whole-stored, row-stored)
 
 pub ruleset seat-steps = (needs, low-half, high-half, inside-word, behind-word, seat-inside, seat-behind)

@@ -2,8 +2,9 @@
 // Chapter 'The table'.
 ghost use mathlib.Core.Path.{_≡_};
 ghost use mathlib.Core.List.{[], _∷_};
-ghost use Prim.Native.Nat.{_+_, _<_, _^_};
-ghost use lib.ListN.{getD};
+ghost use Prim.Native.Nat.{_+_, _≤_, _<_, _^_};
+ghost use lib.ListN.{length, getD};
+ghost use Rattle.rules.specs.Record.{rowWords};
 ghost use Rattle.jsx.specs.Table.{noPart, spanPart, recordPart};
 ghost use Rattle.table.specs.Slot.{seat, seatInside, seatBehind};
 ghost use Rattle.table.specs.Contract.{Start, Enterable, Words, Put, Stored, Answered};
@@ -14,7 +15,7 @@ pub const ROW_WORDS: usize = 7;
 // The parent of a record that has none.
 pub const MISSING: usize = 4_294_967_295;
 
-// Places in a row: kind, start and end; then parent, `after` and extra; then depth.
+// The places of a row's words.
 const KIND: usize = 0;
 
 const START: usize = 1;
@@ -22,6 +23,10 @@ const START: usize = 1;
 const END: usize = 2;
 
 const PARENT: usize = 3;
+
+const AFTER: usize = 4;
+
+const EXTRA: usize = 5;
 
 const DEPTH: usize = 6;
 
@@ -108,14 +113,45 @@ fn put_three(t: &mut [u32], k: usize, a: usize, b: usize, c: usize)
     put_word(t, k + 2, c);
 }
 
-// A node's row at the front of the part.
-pub fn put_node(t: &mut [u32], slot: Slot, w: Node)
+// A node's row at the front of a part that has room for it.
+fn put_whole(t: &mut [u32], slot: Slot, w: Node)
+    requires { ⌜ Words (seat slot) (w .kind) (w .start) (w .end) (w .extra) (w .below) × (rowWords ≤ length (now t)) ⌝ }
+    ensures { λ _. ⌜ Stored 0 (seat slot) (w .kind) (w .start) (w .end) (w .extra) (w .below) (now (t .entry)) (now (t .exit)) ⌝ }
+{
+    let number = slot.number();
+    let depth = slot.depth();
+    t[KIND] = w.kind as u32;
+    t[START] = w.start as u32;
+    t[END] = w.end as u32;
+    t[PARENT] = slot.parent as u32;
+    t[AFTER] = (number + (1 + w.below)) as u32;
+    t[EXTRA] = w.extra as u32;
+    t[DEPTH] = depth as u32;
+}
+
+// A node's row at the front of any part, each word where it fits.
+fn put_cut(t: &mut [u32], slot: Slot, w: Node)
     requires { ⌜ Words (seat slot) (w .kind) (w .start) (w .end) (w .extra) (w .below) ⌝ }
     ensures { λ _. ⌜ Stored 0 (seat slot) (w .kind) (w .start) (w .end) (w .extra) (w .below) (now (t .entry)) (now (t .exit)) ⌝ }
 {
     put_three(t, KIND, w.kind, w.start, w.end);
     put_three(t, PARENT, slot.parent, slot.number() + (1 + w.below), w.extra);
     put_word(t, DEPTH, slot.depth());
+}
+
+// A node's row at the front of the part. In a check there is no word of a table, in a read room for the row: so one test or two.
+pub fn put_node(t: &mut [u32], slot: Slot, w: Node)
+    requires { ⌜ Words (seat slot) (w .kind) (w .start) (w .end) (w .extra) (w .below) ⌝ }
+    ensures { λ _. ⌜ Stored 0 (seat slot) (w .kind) (w .start) (w .end) (w .extra) (w .below) (now (t .entry)) (now (t .exit)) ⌝ }
+{
+    if t.len() == 0 {
+        return;
+    }
+    if ROW_WORDS <= t.len() {
+        put_whole(t, slot, w);
+        return;
+    }
+    put_cut(t, slot, w);
 }
 
 // A node's row at the word k: its writer is lent only the part from there on.

@@ -1,44 +1,36 @@
+use Rattle.table.proofs.Laws.{writer-steps}
 use Rattle.table.proofs.put_node.Statement.{statement}
 use Rattle.table.proofs.put_node.Tie as tie
-use Rattle.table.proofs.Seats.{row-steps}
-
-put-three-requires : tie.Need-put-three-requires
-put-three-requires c κs = search row-steps
-
-number-requires : tie.Need-number-requires
-number-requires c κs = search row-steps
-
-add-put-three : tie.Need-add-put-three
-add-put-three c = search row-steps
-
-add-put-three-2 : tie.Need-add-put-three-2
-add-put-three-2 c = search row-steps
-
-put-three-requires-2 : tie.Need-put-three-requires-2
-put-three-requires-2 c κs = search row-steps
-
-depth-requires : tie.Need-depth-requires
-depth-requires c κs = search row-steps
-
-put-word-requires : tie.Need-put-word-requires
-put-word-requires c κs = search row-steps
-
-same-length : tie.Need-same-length
-same-length c = search row-steps
 
 returns : tie.Need-returns
-returns c = search row-steps
+returns c = search writer-steps
+
+put-whole-requires : tie.Need-put-whole-requires
+put-whole-requires c κs = search writer-steps
+
+same-length : tie.Need-same-length
+same-length c = search writer-steps
+
+returns-2 : tie.Need-returns-2
+returns-2 c = search writer-steps
+
+put-cut-requires : tie.Need-put-cut-requires
+put-cut-requires c κs = search writer-steps
+
+same-length-2 : tie.Need-same-length-2
+same-length-2 c = search writer-steps
+
+returns-3 : tie.Need-returns-3
+returns-3 c = search writer-steps
 
 pub put-node-spec : {M : Type 1} → statement M
 put-node-spec =
     tie.close
     (tie.spec
-    put-three-requires
-    number-requires
-    add-put-three
-    add-put-three-2
-    put-three-requires-2
-    depth-requires
-    put-word-requires
+    returns
+    put-whole-requires
     same-length
-    returns)
+    returns-2
+    put-cut-requires
+    same-length-2
+    returns-3)
