@@ -63,6 +63,11 @@ pub no-room : read standard stage (bytesOf "<a/>") (table 20) ≡ refused 15 3 0
 unfolding wholeLanguage
 no-room = refl
 
+-- D2: "now holds w/7 records": 21 words hold three.
+pub just-room : read standard stage (bytesOf "<a/>") (table 21) .number ≡ 0
+unfolding wholeLanguage
+just-room = refl
+
 -- D: "words beyond the last record stay untouched".
 pub more-room : read standard stage (bytesOf "<a/>") (table 23) .table
     ≡ row 1 0 4 4294967295 3 0 0 (row 18 0 4 0 3 0 1 (row 3 1 2 1 3 0 2 (7 ∷ 7 ∷ [])))

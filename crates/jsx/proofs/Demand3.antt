@@ -4,11 +4,13 @@ use mathlib.Core.Bool.{Bool, true, false}
 use mathlib.Core.List.{List, [], _++_, append-assoc}
 use Prim.Native.Nat.{ℕ, suc, _+_, _-_, _*_, _≤_, _<_}
 use native.Mathlib.Omega.{arith}
-use lib.ListN.{length, take, drop, length-append}
+use lib.ListN.{length, take, drop, getD, length-append}
 use lib.Seq.{take-at, drop-at}
+use lib.Dec.{eqb}
+use borrow.Author.Tests.{eq-eqb, ne-eqb}
 use Rattle.rules.specs.Forest.{Forest, nil, width}
 use Rattle.rules.specs.Rule.{Rule}
-use Rattle.rules.specs.Parse.{Answer, got, trouble, Plain}
+use Rattle.rules.specs.Parse.{Answer, got, trouble, pick, Plain}
 use Rattle.rules.specs.Record.{rowWords, count, records}
 use Rattle.rules.specs.Moved.{eachRow, moved}
 use Rattle.rules.specs.Replaced.{insideOf, contentDepth, Change, widened, pushed}
@@ -18,13 +20,16 @@ use Rattle.rules.proofs.Moved.{records-from-zero}
 use Rattle.rules.proofs.Joined.{meets, lastEnds, firstEnd, count-apart, count-met}
 use Rattle.rules.proofs.Deeper.{deepen, count-deepen}
 use Rattle.rules.proofs.Edited.{changeOf, recordsBefore}
+use Rattle.rules.proofs.Held.{depthOf}
+use Rattle.rules.proofs.Numbered.{parentOf, Under, outermost, inner, depth-known, RowOf, row-of}
 use Rattle.jsx.specs.Reading.{Limits, stage, run, answer}
-use Rattle.jsx.specs.Table.{missing}
+use Rattle.jsx.specs.Table.{missing, tableWord}
 use Rattle.jsx.specs.Compose.{Accepted, countOf, rowsRead, withDepth, ReadAs, rowsOf, forestOf, textLabel}
 use Rattle.jsx.specs.Compose.{joinedReadings, textsMeet, bytesBetween, replacedBytes, Closed, contentStart}
 use Rattle.jsx.specs.Compose.{contentFirst, contentEnd, contentRows, depthLeft, contentChange, replacedRows}
-use Rattle.jsx.specs.Compose.{contentDeeper, pairedRow}
+use Rattle.jsx.specs.Compose.{contentDeeper, pairedRow, depthByParent, Reads}
 use Rattle.jsx.specs.Demand3.{BytesStay, AcceptedIsRead, ReadToTheEnd, EveryTable, NumbersTo16, RunsJoin}
+use Rattle.jsx.specs.Demand3.{DepthsCountAncestors}
 use Rattle.jsx.specs.Demand3.{EmptyRun, RowsFollow, TextsBecomeOne, Stands, OneClosingTag, ContentIsRun}
 use Rattle.jsx.specs.Demand3.{ContentsAreRuns, Replaces, RowsReplaced, RunsDeepen}
 use Rattle.jsx.proofs.Cut.{plain-join, plain-replace}
@@ -89,6 +94,44 @@ stage-numbers-to-16 = numbers stage-numbers
 -- and so have those of a run.
 pub run-numbers-to-16 : NumbersTo16 run
 run-numbers-to-16 = numbers run-numbers
+
+-- A row of a reading has the depth that its parent gives it.
+row-depth : (u : Forest) → count u ≤ missing → (j : ℕ) → j < count u
+    → tableWord (rowsOf u) j 6 ≡ depthByParent (rowsOf u) j
+unfolding tableWord depthByParent
+row-depth u small j h = by (depth-known u 0 missing 0 j (omega arith) (omega arith)) (row j h) (row _)
+  where
+    row : (m : ℕ) → m < count u → RowOf u 0 0 missing 0 m m
+    row m k = row-of u 0 0 missing 0 m m (omega arith) k
+
+    by : Under 0 missing 0 j (parentOf 0 missing j u) (depthOf 0 0 j u) u
+        → RowOf u 0 0 missing 0 j j
+        → (parentOf 0 missing j u < count u → RowOf u 0 0 missing 0 (parentOf 0 missing j u) (parentOf 0 missing j u))
+        → getD (rowsOf u) (rowWords * j + 6) 0
+        ≡ pick (eqb (getD (rowsOf u) (rowWords * j + 3) 0) missing) 0
+        (getD (rowsOf u) (rowWords * getD (rowsOf u) (rowWords * j + 3) 0 + 6) 0 + 1)
+    by (outermost f g) r p = rw (eq-eqb _ missing (r .parent-word ∙ f)) (r .depth-word ∙ g)
+    by (inner a b g) r p =
+        rw (ne-eqb (getD (rowsOf u) (rowWords * j + 3) 0) missing (λ z. omega (arith, r .parent-word)), r .parent-word)
+        (r .depth-word ∙ g ∙ ap (λ (n : ℕ). n + 1) (sym (p (omega arith) .depth-word)))
+
+depths-count-ancestors : {reading : ℕ → Rule} → Readable reading → Proper reading → DepthsCountAncestors reading
+unfolding Reads
+depths-count-ancestors {reading} rd pr l small s h j k =
+    let x = check-zero l reading s pr h in
+    let e = read-accepted l reading s (x .1) in
+    let few = rd .few (l .depth) s true (x .0) (x .1 .reads .0) (x .1 .reads .1) in
+    let short = x .1 .short in
+    subst (λ (t : List ℕ). tableWord t j 6 ≡ depthByParent t j) (sym (e .2))
+    (row-depth (x .0) (omega arith) j (omega (arith, e .1)))
+
+-- So it is in a stage,
+pub stage-depths-count-ancestors : DepthsCountAncestors stage
+stage-depths-count-ancestors = depths-count-ancestors stage-readable stage-proper
+
+-- and in a run.
+pub run-depths-count-ancestors : DepthsCountAncestors run
+run-depths-count-ancestors = depths-count-ancestors run-readable run-proper
 
 -- ---- runs join
 

@@ -12,6 +12,8 @@ pub mod Examples
 pub mod EveryKind
 -- An input for each reading of docs/DECISIONS.md.
 pub mod Readings
+-- What the depth of a record counts.
+pub mod Depths
 -- Limits, the table's room, the bytes of a record, and what the program prints.
 pub mod Calls
 -- ---- How the rules read

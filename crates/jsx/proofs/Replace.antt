@@ -434,7 +434,8 @@ module _ (reading : ℕ → Rule) (rd : Readable reading) (l : Limits) (small : 
     -- are moved.
     pub now : rowsOf (fill (meant .spot) v) ≡ eachRow
         (widened (recordsBefore (meant .spot)) (changeOf (meant .inner) v)) (meant .rows .ahead)
-        ++ (moved (bytesBefore (meant .spot)) (recordsBefore (meant .spot)) (contentDeeper (rowsOf u) j) missing j (rowsOf v)
+        ++ (moved (bytesBefore (meant .spot)) (recordsBefore (meant .spot)) (contentDeeper (rowsOf u) j) missing j
+        (rowsOf v)
         ++ eachRow (pushed (recordsBefore (meant .spot)) missing (changeOf (meant .inner) v)) (meant .rows .rest))
 
   -- DEMAND 3: any accepted run that keeps the length limit, and the depth limit by the depth that is left there.

@@ -31,6 +31,10 @@ countOf l reading s = check l reading s .count
 unfoldable pub rowsRead : Limits → (ℕ → Rule) → List ℕ → List ℕ
 rowsRead l reading s = read l reading s (replicate (rowWords * countOf l reading s) 0) .table
 
+-- The depth that a row's parent gives it: 0 where it has none, else one more than the parent's.
+unfoldable pub depthByParent : (t : List ℕ) (j : ℕ) → ℕ
+depthByParent t j = pick (eqb (tableWord t j 3) missing) 0 (tableWord t (tableWord t j 3) 6 + 1)
+
 -- The limits with another depth.
 abbrev pub withDepth : Limits → ℕ → Limits
 withDepth l d = record { bytes = l .bytes; depth = d }

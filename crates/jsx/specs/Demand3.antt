@@ -14,10 +14,10 @@ use Rattle.rules.specs.Record.{rowWords, count}
 use Rattle.rules.specs.Moved.{moved}
 use Rattle.rules.specs.Joined.{lastEnds, firstEnd}
 use Rattle.jsx.specs.Reading.{Limits, answer, run}
-use Rattle.jsx.specs.Table.{missing, accepted, holds, written, check, read}
+use Rattle.jsx.specs.Table.{missing, accepted, holds, written, check, read, tableWord}
 use Rattle.jsx.specs.Compose.{Accepted, countOf, rowsRead, withDepth, ReadAs, rowsOf, textsMeet, bytesBetween}
 use Rattle.jsx.specs.Compose.{replacedBytes, pairedRow, Closed, contentStart, contentFirst, contentEnd}
-use Rattle.jsx.specs.Compose.{contentRows, contentDeeper, depthLeft, contentChange, replacedRows}
+use Rattle.jsx.specs.Compose.{contentRows, contentDeeper, depthLeft, contentChange, replacedRows, depthByParent}
 
 -- ---- inputs
 
@@ -52,6 +52,13 @@ pub record NumbersTo16 (reading : ℕ → Rule) : Type 0 where
   pub refusals : (l : Limits) (s : List ℕ) (n a b c d : ℕ) → answer l reading s ≡ trouble n a b c d → (1 ≤ n) × (n ≤ 16)
   pub checkNumber : (l : Limits) (s : List ℕ) → check l reading s .number ≤ 16
   pub readNumber : (l : Limits) (s t : List ℕ) → read l reading s t .number ≤ 16
+
+-- D2: "the number of its ancestors in the table": each row has the depth that its parent gives it.
+abbrev pub DepthsCountAncestors : (reading : ℕ → Rule) → Type 0
+DepthsCountAncestors reading = (l : Limits) → l .bytes ≤ 1_048_576
+    → (s : List ℕ) → Accepted l reading s
+    → (j : ℕ) → j < countOf l reading s
+    → tableWord (rowsRead l reading s) j 6 ≡ depthByParent (rowsRead l reading s) j
 
 -- ---- Demand 3: "If two runs of children are each accepted and together keep the length limit, the joined run is
 -- accepted;"

@@ -50,7 +50,8 @@ module _ {s : List ℕ} {at e : ℕ} {q : Seat} (room : Room 3 s at q) (l : Past
       made-goes (upto-begin (object ⨾ many dotted) (seatInside q) (0 + rowWords) t i)
       (object-made (l .is) (far .0) (far .1) w) goes-object (f ∙ same-seat (seatInside q)) (omega arith) refl
 
-  module _ {a : ℕ} (st : Start (length t₁) (2 * rowWords) a) {q₂ : Seat} (f₂ : q₂ ≡ seatBehind 1 q₁) {r : Ans} {u t₂ : List ℕ}
+  module _ {a : ℕ} (st : Start (length t₁) (2 * rowWords) a) {q₂ : Seat} (f₂ : q₂ ≡ seatBehind 1 q₁) {r : Ans}
+      {u t₂ : List ℕ}
       (m : Made r s (many dotted) e 0 q₂ 0 (midOf a (length t₁ - a) t₁) u)
       (g : t₂ ≡ putMid a (length t₁ - a) t₁ u) where
     rest : Made r s (many dotted) e 0 q₂ (2 * rowWords) t₁ t₂

@@ -179,7 +179,8 @@ row-is t k =
     let f : ℕ → List ℕ = λ i. fieldAt t (rowWords * k + i) in
     let par = parentField (getD t (rowWords * k + 3) 0) in
     ap (λ (l : List ℕ). l ++ (par ++ f 4 ++ f 5 ++ f 6) ++ (10 ∷ []))
-    (three-behind (decimal k) (fieldAt t (rowWords * k)) (f 1) (f 2) ∙ (λ i. decimal k ++ fieldAt t (z i) ++ f 1 ++ f 2))
+    (three-behind (decimal k) (fieldAt t (rowWords * k)) (f 1) (f 2) ∙
+    (λ i. decimal k ++ fieldAt t (z i) ++ f 1 ++ f 2))
     ∙ ap (λ (l : List ℕ). l ++ (10 ∷ [])) (four-behind (decimal k ++ f 0 ++ f 1 ++ f 2) par (f 4) (f 5) (f 6))
 
 -- The line of a record.

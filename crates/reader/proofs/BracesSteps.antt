@@ -145,7 +145,8 @@ module _ (s : List ℕ) (d at : ℕ) where
 
 -- ---- `{expression}` and `{...expression}` with their rows
 
-module _ (d : ℕ) {s : List ℕ} {at p : ℕ} (pa : Past p s pass at 1) (t : List ℕ) {a : ℕ} (st : Start (length t) rowWords a)
+module _ (d : ℕ) {s : List ℕ} {at p : ℕ} (pa : Past p s pass at 1) (t : List ℕ) {a : ℕ}
+    (st : Start (length t) rowWords a)
     {q q₁ : Seat} (eq : q₁ ≡ seatInside q) {r : Ans} {u : List ℕ} where
   -- `{expression}` is read, and its row was stored.
   pub held-made : Made r s (inContainer (within d)) p 2 q₁ 0 (midOf a (length t - a) t) u

@@ -200,7 +200,8 @@ module _ (d : ℕ) {s : List ℕ} {at : ℕ} {q : Seat} {r : Ans} {t t₁ : List
   unfolding arguments
   args-refuses h = refused (seq-no s (suc (length s)) (conditional (within d)) 0 at (made-no l h) _) h
 
-  module _ {e k : ℕ} (h : r ≡ Got e k) {a : ℕ} (st : Start (length t₁) (rowWords * k) a) {q₂ : Seat} (eq : q₂ ≡ seatBehind k q)
+  module _ {e k : ℕ} (h : r ≡ Got e k) {a : ℕ} (st : Start (length t₁) (rowWords * k) a) {q₂ : Seat}
+      (eq : q₂ ≡ seatBehind k q)
       {r₂ : Ans} {u : List ℕ} (l₂ : Made r₂ s (many (argumentTurn (within d))) e 0 q₂ 0 (midOf a (length t₁ - a) t₁) u)
     where
       args-begun : Upto s (arguments (within d)) at q 0 t
@@ -467,7 +468,8 @@ module _ (d : ℕ) {s : List ℕ} {at : ℕ} {q : Seat} {r : Ans} {t t₁ : List
           let far = l .of .far _ _ h in
           rw (f, g) (upto-made 1 (look-else cond-first l₂ goes-blanks h₂ y (ne-eqb b (code "?") x)) (omega arith))
 
-      module _ (x : b ≡ code "?") {a : ℕ} (st : Start (length t₁) (rowWords * k) a) {q₂ : Seat} (eq : q₂ ≡ seatBehind k q)
+      module _ (x : b ≡ code "?") {a : ℕ} (st : Start (length t₁) (rowWords * k) a) {q₂ : Seat}
+          (eq : q₂ ≡ seatBehind k q)
           {r₃ : Ans} {u : List ℕ} (l₃ : Made r₃ s (question (within d)) p 1 q₂ 0 (midOf a (length t₁ - a) t₁) u) where
         cond-asked : Upto s (conditional (within d)) at q 0 t (question (within d)) p k t₁
         cond-asked =

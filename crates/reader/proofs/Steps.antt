@@ -330,7 +330,8 @@ module _ {s : List ℕ} {G L : Rule} {c at : ℕ} {q : Seat} {t₀ : List ℕ} {
 module _ {s : List ℕ} {G L R : Rule} (is : Loops s G L R) {c at : ℕ} {q : Seat} {t₀ : List ℕ} {p m : ℕ} {t : List ℕ}
     (v : Loop c s G at q t₀ p m t) {r : Ans} {k₁ : ℕ} (l : Leaf goesOn r s L p k₁) where
   module _ {e j : ℕ} (h : r ≡ Got e j) where
-    module _ (n : j ≡ 0 → ⊥) {a : ℕ} (st : Start (length t) (rowWords * m) a) {q₂ : Seat} (eq : q₂ ≡ seatBehind m q) {r₂ : Ans}
+    module _ (n : j ≡ 0 → ⊥) {a : ℕ} (st : Start (length t) (rowWords * m) a) {q₂ : Seat} (eq : q₂ ≡ seatBehind m q)
+        {r₂ : Ans}
         {u : List ℕ} (l₂ : Made r₂ s R e 1 q₂ 0 (midOf a (length t - a) t) u) where
       -- What stands behind the leaf refuses.
       pub loop-refuses-inside : {t′ : List ℕ} {x a b g y : ℕ} → r₂ ≡ No x a b g y → Made r₂ s G at 0 q 0 t₀ t′
@@ -442,7 +443,8 @@ module _ {s : List ℕ} {N G : Rule} {at K p : ℕ} (t : List ℕ) {a : ℕ} (st
   unfolding count
   node-is {z} {m} {j = j} {t₁} {t₂} h w st₂ is o b f g =
       let far = l .of .far _ _ h in
-      let up = last-made (is .here (seatInside q) rowWords t) (lent-inside q t st eq l w) (is .on) (same-seat (seatInside q))
+      let up = last-made (is .here (seatInside q) rowWords t) (lent-inside q t st eq l w) (is .on)
+      (same-seat (seatInside q))
       refl h in
       let up₁ = upto-count up {k = m} (omega arith) in
       let whole = wrap-got s (suc (length s)) (is .within) 0 at (turn-read up₁) (λ o. node K 0) in

@@ -113,7 +113,8 @@ module _ (d : ℕ) {s : List ℕ} {a : ℕ} {q : Seat} {r : Ans} {t t₁ : List 
     unfolding inTag
     tag-begun = upto-begin (inTag (within d)) q 0 t (made-began l h)
 
-    module _ {i : ℕ} (st : Start (length t₁) (rowWords * k) i) {q₂ : Seat} (eq : q₂ ≡ seatBehind k q) {r₂ : Ans} {u : List ℕ}
+    module _ {i : ℕ} (st : Start (length t₁) (rowWords * k) i) {q₂ : Seat} (eq : q₂ ≡ seatBehind k q) {r₂ : Ans}
+        {u : List ℕ}
         (l₂ : Made r₂ s (attributes (within d)) e 0 q₂ 0 (midOf i (length t₁ - i) t₁) u) where
       tag-named : Upto s (inTag (within d)) a q 0 t (attributes (within d) ⨾ tagEnd) e k t₁
       tag-named = reader-first tag-begun goes-element-name l h

@@ -66,14 +66,16 @@ inside-deepen k (group (node n x) c u) = refl
 inside-deepen k (group (content d) c u) = inside-deepen k u
 
 -- The record table does not show how much depth is left.
-pub records-deepen : (k : ℕ) (u : Forest) (at n par deep : ℕ) → records at n par deep (deepen k u) ≡ records at n par deep u
+pub records-deepen : (k : ℕ) (u : Forest) (at n par deep : ℕ)
+    → records at n par deep (deepen k u) ≡ records at n par deep u
 unfolding deepen deepenLabel records
 records-deepen k nil at n par deep = refl
 records-deepen k (byte b u) at n par deep = records-deepen k u (at + 1) n par deep
 records-deepen k (group (node m x) c u) at n par deep =
     (λ i. row m at (at + w i) par (n + (1 + c′ i)) x deep
     (records-deepen k c at (n + 1) n (deep + 1) i ++ records (at + w i) (n + (1 + c′ i)) par deep (deepen k u)))
-    ∙ ap (λ (l : List ℕ). row m at (at + width c) par (n + (1 + count c)) x deep (records at (n + 1) n (deep + 1) c ++ l))
+    ∙ ap (λ (l : List ℕ). row m at (at + width c) par (n + (1 + count c)) x deep
+    (records at (n + 1) n (deep + 1) c ++ l))
     (records-deepen k u (at + width c) (n + (1 + count c)) par deep)
   where
     w : width (deepen k c) ≡ width c
@@ -82,7 +84,8 @@ records-deepen k (group (node m x) c u) at n par deep =
     c′ : count (deepen k c) ≡ count c
     c′ = count-deepen k c
 records-deepen k (group (content d) c u) at n par deep =
-    (λ i. records-deepen k c at n par deep i ++ records (at + width-deepen k c i) (n + count-deepen k c i) par deep (deepen k u))
+    (λ i. records-deepen k c at n par deep i ++ records (at + width-deepen k c i) (n + count-deepen k c i) par deep
+    (deepen k u))
     ∙ ap (λ (l : List ℕ). records at n par deep c ++ l) (records-deepen k u (at + width c) (n + count c) par deep)
 
 -- ---- rules with no content in them

@@ -65,7 +65,8 @@ rows-stay n₀ c₀ v nil at n p deep h = refl
 rows-stay n₀ c₀ v (byte b u) at n p deep h = rows-stay n₀ c₀ v u (at + 1) n p deep h
 rows-stay n₀ c₀ v (group (node k x) c u) at n p deep h =
     (λ i. inFront (widened-other n₀ c₀ v k at (at + width c) p (n + (1 + count c)) x deep (omega arith) i)
-    (eachRow (widened n₀ (changeOf c₀ v)) (records at (n + 1) n (deep + 1) c ++ records (at + width c) (n + (1 + count c)) p deep u)))
+    (eachRow (widened n₀ (changeOf c₀ v)) (records at (n + 1) n (deep + 1) c ++ records (at + width c)
+    (n + (1 + count c)) p deep u)))
     ∙ ap (λ (t : List ℕ). row k at (at + width c) p (n + (1 + count c)) x deep t)
     (eachRow-append (widened n₀ (changeOf c₀ v)) (table-records c at (n + 1) n (deep + 1)) _
     ∙ (λ i. rows-stay n₀ c₀ v c at (n + 1) n (deep + 1) (omega arith) i
@@ -148,7 +149,8 @@ module _ {d : ℕ} {c₀ : Forest} where
   front at n par deep (past {l = node k x} {c = c} ω) v =
       row k at (at + width c) par (n + (1 + count c)) x deep
       (records at (n + 1) n (deep + 1) c ++ front (at + width c) (n + (1 + count c)) par deep ω v)
-  front at n par deep (past {l = content d′} {c = c} ω) v = records at n par deep c ++ front (at + width c) (n + count c) par deep ω v
+  front at n par deep (past {l = content d′} {c = c} ω) v =
+      records at n par deep c ++ front (at + width c) (n + count c) par deep ω v
   front at n par deep (skip ω) v = front (at + 1) n par deep ω v
 
   -- The rows behind it.
@@ -169,7 +171,8 @@ module _ {d : ℕ} {c₀ : Forest} where
 
   -- A table is the rows in front of a content, the content's, and those behind it.
   pub three-parts : {u : Forest} (ω : Spot d c₀ u) (v : Forest) (at n par deep : ℕ)
-      → records at n par deep (fill ω v) ≡ front at n par deep ω v ++ (middle at n par deep ω v ++ back at n par deep ω v)
+      → records at n par deep (fill ω v) ≡ front at n par deep ω v ++
+      (middle at n par deep ω v ++ back at n par deep ω v)
   unfolding records fill bytesBefore recordsBefore holder holders front back
   three-parts (arrived {l = node k x} p q) v at n par deep = let z : _≡_ {A = ℕ} 0 1 = cc in absurd (omega arith)
   three-parts (arrived {l = content d′} {v = r} p q) v at n par deep =
@@ -177,25 +180,30 @@ module _ {d : ℕ} {c₀ : Forest} where
       (records-same v (omega arith) (omega arith) refl refl)
   three-parts (under {l = node k x} {v = r} ω) v at n par deep =
       ap (λ (t : List ℕ). row k at (at + width (fill ω v)) par (n + (1 + count (fill ω v))) x deep t)
-      (regroup (front at (n + 1) n (deep + 1) ω v) (back at (n + 1) n (deep + 1) ω v) _ (middle at n par deep (under {l = node k x} {v = r} ω) v)
+      (regroup (front at (n + 1) n (deep + 1) ω v) (back at (n + 1) n (deep + 1) ω v) _
+      (middle at n par deep (under {l = node k x} {v = r} ω) v)
       (three-parts ω v at (n + 1) n (deep + 1)) (records-same v refl (omega arith) refl refl))
   three-parts (under {l = content d′} {v = r} ω) v at n par deep =
-      regroup (front at n par deep ω v) (back at n par deep ω v) _ (middle at n par deep ω v) (three-parts ω v at n par deep) refl
+      regroup (front at n par deep ω v) (back at n par deep ω v) _ (middle at n par deep ω v)
+      (three-parts ω v at n par deep) refl
   three-parts (past {l = node k x} {c = c} ω) v at n par deep =
       ap (λ (t : List ℕ). row k at (at + width c) par (n + (1 + count c)) x deep t)
       (preceded (records at (n + 1) n (deep + 1) c) (front (at + width c) (n + (1 + count c)) par deep ω v)
       (back (at + width c) (n + (1 + count c)) par deep ω v) (middle at n par deep (past {l = node k x} {c = c} ω) v)
-      (three-parts ω v (at + width c) (n + (1 + count c)) par deep) (records-same v (omega arith) (omega arith) refl refl))
+      (three-parts ω v (at + width c) (n + (1 + count c)) par deep)
+      (records-same v (omega arith) (omega arith) refl refl))
   three-parts (past {l = content d′} {c = c} ω) v at n par deep =
       preceded (records at n par deep c) (front (at + width c) (n + count c) par deep ω v)
       (back (at + width c) (n + count c) par deep ω v) (middle at n par deep (past {l = content d′} {c = c} ω) v)
       (three-parts ω v (at + width c) (n + count c) par deep) (records-same v (omega arith) (omega arith) refl refl)
   three-parts (skip {b = b} ω) v at n par deep =
-      preceded [] (front (at + 1) n par deep ω v) (back (at + 1) n par deep ω v) (middle at n par deep (skip {b = b} ω) v)
+      preceded [] (front (at + 1) n par deep ω v) (back (at + 1) n par deep ω v)
+      (middle at n par deep (skip {b = b} ω) v)
       (three-parts ω v (at + 1) n par deep) (records-same v (omega arith) refl refl refl)
 
   -- The rows in front of the content: an ancestor's row ends further on, any other stays.
-  front-widened : {u : Forest} (ω : Spot d c₀ u) → Followed ω → (v : Forest) (n₀ at n p deep : ℕ) → n + recordsBefore ω ≡ n₀
+  front-widened : {u : Forest} (ω : Spot d c₀ u) → Followed ω → (v : Forest) (n₀ at n p deep : ℕ)
+      → n + recordsBefore ω ≡ n₀
       → front at n p deep ω v ≡ eachRow (widened n₀ (changeOf c₀ v)) (front at n p deep ω c₀)
   unfolding recordsBefore Followed front eachRow
   front-widened (arrived p₁ q) f v n₀ at n p deep e = refl
@@ -205,7 +213,8 @@ module _ {d : ℕ} {c₀ : Forest} where
       sym ((λ i. inFront
       (widened-ancestor n₀ c₀ v k at (at + width (fill ω c₀)) p (n + (1 + count (fill ω c₀))) x deep (omega arith) i)
       (eachRow (widened n₀ (changeOf c₀ v)) (front at (n + 1) n (deep + 1) ω c₀)))
-      ∙ row-same k at p x deep (omega arith) (omega arith) (sym (front-widened ω f v n₀ at (n + 1) n (deep + 1) (omega arith))))
+      ∙ row-same k at p x deep (omega arith) (omega arith)
+      (sym (front-widened ω f v n₀ at (n + 1) n (deep + 1) (omega arith))))
   front-widened (under {l = content d′} ω) f v n₀ at n p deep e = front-widened ω f v n₀ at n p deep e
   front-widened (past {l = node k x} {c = c} ω) f v n₀ at n p deep e =
       sym ((λ i. inFront (widened-other n₀ c₀ v k at (at + width c) p (n + (1 + count c)) x deep (omega arith) i)
@@ -227,7 +236,8 @@ module _ {d : ℕ} {c₀ : Forest} where
   table-back (arrived {v = r} p₁ q) v at n p deep = table-records r (at + width v) (n + count v) p deep
   table-back (under {l = node k x} {v = r} ω) v at n p deep =
       table-append (table-back ω v at (n + 1) n (deep + 1)) (table-records r _ _ p deep)
-  table-back (under {l = content d′} {v = r} ω) v at n p deep = table-append (table-back ω v at n p deep) (table-records r _ _ p deep)
+  table-back (under {l = content d′} {v = r} ω) v at n p deep =
+      table-append (table-back ω v at n p deep) (table-records r _ _ p deep)
   table-back (past {l = node k x} {c = c} ω) v at n p deep = table-back ω v (at + width c) (n + (1 + count c)) p deep
   table-back (past {l = content d′} {c = c} ω) v at n p deep = table-back ω v (at + width c) (n + count c) p deep
   table-back (skip ω) v at n p deep = table-back ω v (at + 1) n p deep
@@ -249,14 +259,17 @@ module _ {d : ℕ} {c₀ : Forest} where
   back-pushed (under {l = node kind x} {v = r} ω) v n₀ par at n p deep e k o =
       let w = width-fill ω v in let w′ = width-fill ω c₀ in let h = fits ω in
       let m = count-fill ω v in let m′ = count-fill ω c₀ in let g = count-fits ω in
-      let inner : back at (n + 1) n (deep + 1) ω v ≡ eachRow (pushed n₀ par (changeOf c₀ v)) (back at (n + 1) n (deep + 1) ω c₀) =
+      let inner : back at (n + 1) n (deep + 1) ω v ≡ eachRow (pushed n₀ par (changeOf c₀ v))
+      (back at (n + 1) n (deep + 1) ω c₀) =
       back-pushed ω v n₀ par at (n + 1) n (deep + 1) (omega arith) (parent-before n₀ par c₀ v n (omega arith))
       (λ q l s. o q l (omega arith)) in
       let later : records (at + width (fill ω v)) (n + (1 + count (fill ω v))) p deep r
-      ≡ eachRow (pushed n₀ par (changeOf c₀ v)) (records (at + width (fill ω c₀)) (n + (1 + count (fill ω c₀))) p deep r) =
+      ≡ eachRow (pushed n₀ par (changeOf c₀ v)) (records (at + width (fill ω c₀))
+      (n + (1 + count (fill ω c₀))) p deep r) =
       rows-pushed n₀ par c₀ v r p deep (omega arith) (omega arith) (omega arith) (omega arith) k
       (λ q l s. o q (omega arith) (omega arith)) in
-      (λ i. inner i ++ later i) ∙ sym (eachRow-append (pushed n₀ par (changeOf c₀ v)) (table-back ω c₀ at (n + 1) n (deep + 1)) _)
+      (λ i. inner i ++ later i) ∙ sym (eachRow-append (pushed n₀ par (changeOf c₀ v))
+      (table-back ω c₀ at (n + 1) n (deep + 1)) _)
   back-pushed (under {l = content d′} {v = r} ω) v n₀ par at n p deep e k o =
       let w = width-fill ω v in let w′ = width-fill ω c₀ in let h = fits ω in
       let m = count-fill ω v in let m′ = count-fill ω c₀ in let g = count-fits ω in
@@ -323,13 +336,15 @@ module _ {d : ℕ} {c₀ : Forest} where
     now = λ v. three-parts ω v at n par deep
         ∙ (λ i. front-widened ω f v (n + recordsBefore ω) at n par deep refl i
         ++ (records (at + bytesBefore ω) (n + recordsBefore ω) (holder n par ω) (holders deep ω) v
-        ++ back-pushed ω v (n + recordsBefore ω) par at n par deep refl (parent-outermost (n + recordsBefore ω) par c₀ v)
+        ++ back-pushed ω v (n + recordsBefore ω) par at n par deep refl
+        (parent-outermost (n + recordsBefore ω) par c₀ v)
         (λ q l r. o q (omega arith) r) i));
   }
 
   -- The same, with the new content's rows taken from its own table, whose outermost parent is `missing`:
   -- they stand there moved along.
-  pub edited-moved : {u : Forest} (ω : Spot d c₀ u) (at n par deep missing : ℕ) (h : Edited ω at n par deep) (v : Forest)
+  pub edited-moved : {u : Forest} (ω : Spot d c₀ u) (at n par deep missing : ℕ) (h : Edited ω at n par deep)
+      (v : Forest)
       → count v ≤ missing
       → records at n par deep (fill ω v)
       ≡ eachRow (widened (n + recordsBefore ω) (changeOf c₀ v)) (h .ahead)

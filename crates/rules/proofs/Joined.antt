@@ -93,7 +93,8 @@ module _ (w : Forest) (k x : ℕ) (c : Forest) (k′ x′ : ℕ) (c′ v : Fores
   merged o = rows-merged
       ∙ sym ((λ i. lastEnds (width one + firstEnd (rows-back i)) (rows-front i)
       ++ moved (width one) (count one - 1) 0 par par (drop rowWords (rows-back i)))
-      ∙ (λ i. last-ends (table-records w at n par deep) (width one + (at + width c′)) k (at + width w) (at + width one) par
+      ∙ (λ i. last-ends (table-records w at n par deep) (width one + (at + width c′)) k (at + width w)
+      (at + width one) par
       (n + count one) x deep i ++ rest i)
       ∙ append-assoc (records at n par deep w) _ _)
     where
@@ -298,7 +299,8 @@ module _ (isText : Label → Bool) where
   records-apart u v at n par deep e o =
       ap (records at n par deep) (join-apart u v e) ∙ records-join u v at n par deep
       ∙ ap (λ (t : List ℕ). records at n par deep u ++ t)
-      (records-same v (omega arith) (omega arith) refl (omega arith) ∙ records-moved (width u) (count u) 0 par par v at n deep o)
+      (records-same v (omega arith) (omega arith) refl (omega arith) ∙ records-moved (width u)
+      (count u) 0 par par v at n deep o)
 
   -- The texts of a forest that stand in none of its groups have no nodes inside them.
   unfoldable pub Bare : Forest → Type 0
@@ -352,7 +354,8 @@ module _ (isText : Label → Bool) where
         Goal : Forest → Forest → Type 0
         Goal u′ v′ =
             records at n par deep (join isText u v)
-            ≡ lastEnds (width u′ + firstEnd (records at n par deep v′)) (records at n par deep u′) ++ moved (width u′) (count u′ - 1) 0 par par (drop rowWords (records at n par deep v′))
+            ≡ lastEnds (width u′ + firstEnd (records at n par deep v′)) (records at n par deep u′) ++ moved (width u′)
+            (count u′ - 1) 0 par par (drop rowWords (records at n par deep v′))
 
         go : (k : ℕ) × (x : ℕ) × (h .label ≡ node k x) → (k′ : ℕ) × (x′ : ℕ) × (h .label′ ≡ node k′ x′) → Goal u v
         go (k, x, e) (k′, x′, e′) =

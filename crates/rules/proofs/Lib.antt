@@ -56,6 +56,8 @@ pub mod Formed
 pub mod Deeper
 -- ---- Record tables
 
+-- What a row's depth counts, computed.
+pub mod Ancestors
 -- Tables row by row.
 pub mod Rows
 -- What stands elsewhere, with other numbers, has the same table, moved.

@@ -37,6 +37,11 @@ parentOf n par j (group (node k x) c u) =
 parentOf n par j (group (content d) c u) =
     pick (ltb j (n + count c)) (parentOf n par j c) (parentOf (n + count c) par j u)
 
+-- A node j with the parent p and the depth e, in a forest under par and so many records whose first record is n.
+pub data Under (n par deep j p e : ℕ) (u : Forest) : Type 0 where
+  outermost : p ≡ par → e ≡ deep → Under n par deep j p e u
+  inner : n ≤ p → p < j → e ≡ depthOf n deep p u + 1 → Under n par deep j p e u
+
 -- The way to the node with the number j: it has the label l, t is inside it, and its first byte is at q.
 data Way (j : ℕ) (l : Label) (t : Forest) (q : ℕ) : (at n : ℕ) → Forest → Type 0 where
   self : {at n k x : ℕ} {c v : Forest} → j ≡ n → l ≡ node k x → t ≡ c → q ≡ at → Way j l t q at n (group (node k x) c v)
@@ -138,41 +143,60 @@ module _ {j : ℕ} {l : Label} {t : Forest} {q : ℕ} where
       let h = way-bounds w in rw (le-ltb j′ (n + count c) (omega arith)) (way-parent w par j′ lo hi)
   way-parent (pastByte w) par j′ lo hi = way-parent w par j′ lo hi
 
-  -- A parent is the outermost one, or a record of the forest before the node.
+  -- A parent is the outermost one, and then the node's depth is the forest's; or it is a record of the forest before
+  -- the node, and then that is one more than the parent's.
+  way-depth : {at n : ℕ} {u : Forest} → Way j l t q at n u → (par deep : ℕ)
+      → Under n par deep j (parentOf n par j u) (depthOf n deep j u) u
+  unfolding parentOf depthOf
+  way-depth (self {n = n} e p s a) par deep = rw (eq-eqb j n e) (outermost refl refl)
+  way-depth (inNode {n = n} {k} {x} {c} {v} w) par deep =
+      let h = way-bounds w in
+      rw (ne-eqb j n (omega arith), lt-ltb j (n + (1 + count c)) (omega arith)) (go (way-depth w n (deep + 1)))
+    where
+      go : {p e : ℕ} → Under (n + 1) n (deep + 1) j p e c → Under n par deep j p e (group (node k x) c v)
+      go {p} (outermost f g) =
+          let h = way-bounds w in
+          inner (omega arith) (omega arith) (rw (eq-eqb p n f) g)
+      go {p} (inner a b g) =
+          let h = way-bounds w in
+          inner (omega arith) b (rw (ne-eqb p n (omega arith), lt-ltb p (n + (1 + count c)) (omega arith)) g)
+  way-depth (pastNode {n = n} {k} {x} {c} {v} w) par deep =
+      let h = way-bounds w in
+      rw (ne-eqb j n (omega arith), le-ltb j (n + (1 + count c)) (omega arith)) (go (way-depth w par deep))
+    where
+      go : {p e : ℕ} → Under (n + (1 + count c)) par deep j p e v → Under n par deep j p e (group (node k x) c v)
+      go (outermost f g) = outermost f g
+      go {p} (inner a b g) =
+          inner (omega arith) b (rw (ne-eqb p n (omega arith), le-ltb p (n + (1 + count c)) a) g)
+  way-depth (inContent {n = n} {d} {c} {v} w) par deep =
+      let h = way-bounds w in
+      rw (lt-ltb j (n + count c) (omega arith)) (go (way-depth w par deep))
+    where
+      go : {p e : ℕ} → Under n par deep j p e c → Under n par deep j p e (group (content d) c v)
+      go (outermost f g) = outermost f g
+      go {p} (inner a b g) =
+          let h = way-bounds w in
+          inner a b (rw (lt-ltb p (n + count c) (omega arith)) g)
+  way-depth (pastContent {n = n} {d} {c} {v} w) par deep =
+      let h = way-bounds w in
+      rw (le-ltb j (n + count c) (omega arith)) (go (way-depth w par deep))
+    where
+      go : {p e : ℕ} → Under (n + count c) par deep j p e v → Under n par deep j p e (group (content d) c v)
+      go (outermost f g) = outermost f g
+      go {p} (inner a b g) = inner (omega arith) b (rw (le-ltb p (n + count c) a) g)
+  way-depth (pastByte {n = n} {b} {v} w) par deep = go (way-depth w par deep)
+    where
+      go : {p e : ℕ} → Under n par deep j p e v → Under n par deep j p e (byte b v)
+      go (outermost f g) = outermost f g
+      go (inner a c g) = inner a c g
+
   way-ancestor : {at n : ℕ} {u : Forest} → Way j l t q at n u → (par : ℕ)
       → (parentOf n par j u ≡ par) ⊎ ((n ≤ parentOf n par j u) × (parentOf n par j u < j))
-  unfolding parentOf
-  way-ancestor (self {n = n} e p s a) par = rw (eq-eqb j n e) (inl refl)
-  way-ancestor (inNode {n = n} {c = c} w) par =
-      let h = way-bounds w in
-      rw (ne-eqb j n (omega arith), lt-ltb j (n + (1 + count c)) (omega arith)) (inr (go (way-ancestor w n)))
+  way-ancestor {n = n} {u} w par = by (way-depth w par 0)
     where
-      go : (parentOf (n + 1) n j c ≡ n) ⊎ ((n + 1 ≤ parentOf (n + 1) n j c) × (parentOf (n + 1) n j c < j))
-          → (n ≤ parentOf (n + 1) n j c) × (parentOf (n + 1) n j c < j)
-      go (inl e) = let h = way-bounds w in (omega arith, omega arith)
-      go (inr e) = (omega arith, e .1)
-  way-ancestor (pastNode {n = n} {c = c} {v} w) par =
-      let h = way-bounds w in
-      rw (ne-eqb j n (omega arith), le-ltb j (n + (1 + count c)) (omega arith)) (go (way-ancestor w par))
-    where
-      go : (parentOf (n + (1 + count c)) par j v ≡ par)
-          ⊎ ((n + (1 + count c) ≤ parentOf (n + (1 + count c)) par j v) × (parentOf (n + (1 + count c)) par j v < j))
-          → (parentOf (n + (1 + count c)) par j v ≡ par)
-          ⊎ ((n ≤ parentOf (n + (1 + count c)) par j v) × (parentOf (n + (1 + count c)) par j v < j))
-      go (inl e) = inl e
-      go (inr e) = inr (omega arith, e .1)
-  way-ancestor (inContent {n = n} {c = c} w) par =
-      let h = way-bounds w in rw (lt-ltb j (n + count c) (omega arith)) (way-ancestor w par)
-  way-ancestor (pastContent {n = n} {c = c} {v} w) par =
-      let h = way-bounds w in rw (le-ltb j (n + count c) (omega arith)) (go (way-ancestor w par))
-    where
-      go : (parentOf (n + count c) par j v ≡ par)
-          ⊎ ((n + count c ≤ parentOf (n + count c) par j v) × (parentOf (n + count c) par j v < j))
-          → (parentOf (n + count c) par j v ≡ par)
-          ⊎ ((n ≤ parentOf (n + count c) par j v) × (parentOf (n + count c) par j v < j))
-      go (inl e) = inl e
-      go (inr e) = inr (omega arith, e .1)
-  way-ancestor (pastByte w) par = way-ancestor w par
+      by : {p e : ℕ} → Under n par 0 j p e u → (p ≡ par) ⊎ ((n ≤ p) × (p < j))
+      by (outermost f g) = inl f
+      by (inner a b g) = inr (a, b)
 
   -- It leads to a node.
   way-label : {at n : ℕ} {u : Forest} → Way j l t q at n u → (k : ℕ) × (x : ℕ) × (l ≡ node k x)
@@ -221,6 +245,11 @@ label-node u n j l h = way-label (found u 0 n j l h)
 pub parent-known : (u : Forest) (n par j : ℕ) → n ≤ j → j < n + count u
     → (parentOf n par j u ≡ par) ⊎ ((n ≤ parentOf n par j u) × (parentOf n par j u < j))
 parent-known u n par j l h = way-ancestor (found u 0 n j l h) par
+
+-- And its depth is the forest's, or one more than that record's.
+pub depth-known : (u : Forest) (n par deep j : ℕ) → n ≤ j → j < n + count u
+    → Under n par deep j (parentOf n par j u) (depthOf n deep j u) u
+depth-known u n par deep j l h = way-depth (found u 0 n j l h) par deep
 
 -- The parent of a record in the node with the number j is that node or a record in it.
 pub parent-inside : (u : Forest) (n par j j′ : ℕ)

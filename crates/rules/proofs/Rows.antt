@@ -23,7 +23,8 @@ unfolding records
 table-records nil at n par deep = none
 table-records (byte b u) at n par deep = table-records u (at + 1) n par deep
 table-records (group (node k x) c u) at n par deep =
-    more (table-append (table-records c at (n + 1) n (deep + 1)) (table-records u (at + width c) (n + (1 + count c)) par deep))
+    more (table-append (table-records c at (n + 1) n (deep + 1))
+    (table-records u (at + width c) (n + (1 + count c)) par deep))
 table-records (group (content d) c u) at n par deep =
     table-append (table-records c at n par deep) (table-records u (at + width c) (n + count c) par deep)
 

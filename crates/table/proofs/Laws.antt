@@ -86,8 +86,6 @@ three-stored {k = k} {k₁} {k₂} {a} {b} {c} h₁ h₂ h₃ e₁ e₂ =
       is = h₃ .is ∙ (λ i. set (h₂ .is i) (f₂ i) c) ∙ (λ i. set (set (h₁ .is i) (f₁ i) b) (suc (suc k)) c);
     }
 
-
-
 -- ---- rows
 
 -- A forest's rows, stored behind another's: those of the two together.

@@ -135,7 +135,13 @@ fn put_cut(t: &mut [u32], slot: Slot, w: Node)
     ensures { λ _. ⌜ Stored 0 (seat slot) (w .kind) (w .start) (w .end) (w .extra) (w .below) (now (t .entry)) (now (t .exit)) ⌝ }
 {
     put_three(t, KIND, w.kind, w.start, w.end);
-    put_three(t, PARENT, slot.parent, slot.number() + (1 + w.below), w.extra);
+    put_three(
+        t,
+        PARENT,
+        slot.parent,
+        slot.number() + (1 + w.below),
+        w.extra,
+    );
     put_word(t, DEPTH, slot.depth());
 }
 

@@ -8,7 +8,9 @@ use Rattle.batch.proofs.answer_all.Statement.{statement}
 use Rattle.batch.proofs.answer_all.Tie as tie
 
 abbrev Inv-loop : tie.InvT-loop
-Inv-loop item₀ t₀ out₀ k₀ item t out k = (1 ≤ length item) × (textRoom 1_024 ≤ length out) × (length t ≤ rowWords * 131_072) × (length item ≡ length item₀) × (length t ≡ length t₀) × (length out ≡ length out₀)
+Inv-loop item₀ t₀ out₀ k₀ item t out k =
+    (1 ≤ length item) × (textRoom 1_024 ≤ length out) × (length t ≤ rowWords * 131_072) ×
+    (length item ≡ length item₀) × (length t ≡ length t₀) × (length out ≡ length out₀)
 
 abbrev μ-loop : tie.MeasureT-loop
 μ-loop item₀ t₀ out₀ k₀ item t out k = 4_611_686_018_427_387_904 - k
