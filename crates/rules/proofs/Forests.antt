@@ -1,11 +1,28 @@
--- Forests behind forests: widths, counts and record tables add up.
+-- What a row's depth counts, computed; forests behind forests: widths, counts and record tables add up.
 use mathlib.Core.Path.{_≡_, refl, sym, ap, _∙_}
-use mathlib.Core.List.{List, _++_, append-assoc}
+use mathlib.Core.List.{List, [], _++_, append-assoc}
 use Prim.Native.Nat.{ℕ, _+_, _*_}
 use native.Mathlib.Omega.{arith}
 use lib.ListN.{length, length-append}
 use Rattle.rules.specs.Forest.{node, content, Forest, nil, byte, group, _⋈_, width}
 use Rattle.rules.specs.Record.{rowWords, row, count, records}
+
+-- ---- depth, computed
+
+-- A node that holds a node and a content; in the content a node, and in that another.
+abbrev tree : Forest
+tree = group (node 1 1) (group (node 18 0) (byte 60 nil) (group (content 63) inContent (byte 62 nil))) nil
+  where
+    inContent : Forest
+    inContent = group (node 11 0) (byte 123 (group (node 15 0) (byte 97 nil) nil)) nil
+
+-- A row's depth counts the nodes around its node: 0, 1, 1 and 2. A content counts nothing, whatever depth is left in it.
+pub depth-counts-nodes : records 0 0 99 0 tree ≡ row 1 0 4 99 4 1 0
+    (row 18 0 1 0 2 0 1 (row 11 1 3 0 4 0 1 (row 15 2 3 2 4 0 2 [])))
+unfolding records tree count width
+depth-counts-nodes = refl
+
+-- ---- forests behind forests
 
 -- Nothing behind a forest is the forest.
 pub behind-nil : (u : Forest) → u ⋈ nil ≡ u

@@ -2,7 +2,7 @@
 
 -- ---- Forests and answers
 
--- Forests behind forests: widths, counts and record tables add up.
+-- What a row's depth counts, computed; forests behind forests: widths, counts and record tables add up.
 pub mod Forests
 -- What holds of an answer; rules that go on; what was read is as wide as the way and stands there; loops turn by turn.
 pub mod Run
@@ -56,8 +56,6 @@ pub mod Formed
 pub mod Deeper
 -- ---- Record tables
 
--- What a row's depth counts, computed.
-pub mod Ancestors
 -- Tables row by row.
 pub mod Rows
 -- What stands elsewhere, with other numbers, has the same table, moved.
