@@ -100,7 +100,7 @@ module _ {c : ℕ} {s : List ℕ} {at : ℕ} {q : Seat} (room : Room c s at q) {
         shallow = omega (arith, room .shallow);
       })
 
-  -- The slot behind it is a number.
+  -- The number of the seat behind it is a word.
   pub made-slot : c ≤ 100 → {x y : ℕ} → x ≡ q .number → y ≡ m → x + y < 2 ^ 32
   made-slot j f z =
       let far = l .of .far _ _ h in
@@ -246,7 +246,7 @@ module _ {c : ℕ} {s : List ℕ} {G : Rule} {at : ℕ} {q : Seat} {t₀ : List 
   pub loop-inside : (w : List ℕ) {y : ℕ} → y ≡ p → w ≡ s → y ≤ length w
   loop-inside w e f = rw (e, f) (v .here .inside)
 
-  -- The slot behind what was made so far is a number.
+  -- The number of the seat behind what was made so far is a word.
   pub loop-slot : c ≤ 100 → {x y : ℕ} → x ≡ q .number → y ≡ m → x + y < 2 ^ 32
   loop-slot j e f =
       let room = v .room in

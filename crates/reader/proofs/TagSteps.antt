@@ -202,7 +202,7 @@ got-no {X} {r} {p} {m} {n} {a} {b} {c} {d} e f =
     let w : _≡_ {A = ℕ} 0 1 = cc i in
     absurd (omega arith)
 
--- A reader that was lent the part behind v records below the record in the slot q.
+-- A reader that was lent the part behind v records below the record in the seat q.
 content-lent : (v : ℕ) (q : Seat) (t : List ℕ) {r : Ans} {s : List ℕ} {g : Rule} {p k i : ℕ} {q₁ q₂ : Seat}
     {u t₁ : List ℕ}
     → Start (length t) (rowWords * (v + 1)) i

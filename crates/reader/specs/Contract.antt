@@ -37,13 +37,13 @@ pub record TagMade (r : Tagged) (s : List ℕ) (n : Inner) (a : ℕ) (q : Seat) 
   pub goes : (z m e k g : ℕ) → r ≡ Got z m e k g → (g ≡ 0 → ⊥)
       → readAt s (inTag n) a ≡ got true (outOf (readAt s (inTag n) a)) z
 
--- Behind v records below the record in the slot q, which begins at `at`, there is room at p.
+-- Behind v records below the record in the seat q, which begins at `at`, there is room at p.
 pub record Ready (s : List ℕ) (at p v : ℕ) (q : Seat) : Type 0 where
   pub room : Room 3 s p (seatBehind v (seatInside q))
   pub held : q .parent < 2 ^ 32
   pub from : at ≤ p
 
--- Children were read from p on, behind v records below an element that stands in the slot q; where they were got, its
+-- Children were read from p on, behind v records below an element that stands in the seat q; where they were got, its
 -- closing tag was read, and the element's record stored.
 pub record Content (r : Ans) (s : List ℕ) (n : Inner) (o : Opened) (p v : ℕ) (q : Seat) (t t′ : List ℕ) : Type 0 where
   pub held : Ans

@@ -9,26 +9,26 @@ use borrow.Author.Needs.{needs}
 use mir.Syntax.{w32}
 use mir.Val.{Fits}
 use Rattle.table.specs.declared.Slot.{Slot}
-use Rattle.table.specs.Slot.{Seat, seat, seatInside, seatBehind}
+use Rattle.table.specs.Slot.{Seat, level, seat, seatInside, seatBehind}
 use Rattle.table.specs.Contract.{Enterable, Words, Put, Stored}
 
 -- The low half is the number,
-pub low-half : (q : Slot) {n : ℕ} → n ≡ q .here % 4_294_967_296 → n ≡ seat q .number
+pub low-half : (q : Slot) {n : ℕ} → n ≡ q .here % level → n ≡ seat q .number
 unfolding seat
 low-half q e = e
 
 -- and the high half is the depth.
-pub high-half : (q : Slot) {n : ℕ} → n ≡ q .here / 4_294_967_296 → n ≡ seat q .depth
+pub high-half : (q : Slot) {n : ℕ} → n ≡ q .here / level → n ≡ seat q .depth
 unfolding seat
 high-half q e = e
 
 module _ (q : Slot) (h : q .here < 2 ^ 64) where
-  -- One record on and one level deeper is a word,
-  pub inside-word : Enterable (seat q) → {x : ℕ} → x ≡ q .here → x + 4_294_967_297 < 2 ^ 64
+  -- One record on and one level deeper is a number that fits,
+  pub inside-word : Enterable (seat q) → {x : ℕ} → x ≡ q .here → x + (level + 1) < 2 ^ 64
   unfolding seat
   inside-word e f = let a = e .small in let b = e .shallow in omega arith
 
-  -- and so are m records on.
+  -- and so is m records on.
   pub behind-word : {m x y : ℕ} → seat q .number + m < 2 ^ 32 → x ≡ q .here → y ≡ m → x + y < 2 ^ 64
   unfolding seat
   behind-word f a b = omega arith
@@ -36,14 +36,14 @@ module _ (q : Slot) (h : q .here < 2 ^ 64) where
 -- One record on and one level deeper is the seat inside.
 pub seat-inside : (q r : Slot)
     → Enterable (seat q)
-    → r .here ≡ q .here + 4_294_967_297
-    → r .parent ≡ q .here % 4_294_967_296
+    → r .here ≡ q .here + (level + 1)
+    → r .parent ≡ q .here % level
     → seat r ≡ seatInside (seat q)
 unfolding seat
 seat-inside q r e f g =
     let a = e .small in
-    let n : r .here % 4_294_967_296 ≡ q .here % 4_294_967_296 + 1 = omega arith in
-    let d : r .here / 4_294_967_296 ≡ q .here / 4_294_967_296 + 1 = omega arith in
+    let n : r .here % level ≡ q .here % level + 1 = omega arith in
+    let d : r .here / level ≡ q .here / level + 1 = omega arith in
     λ i. record { number = n i; parent = g i; depth = d i }
 
 -- m records on is the seat behind them.
@@ -54,8 +54,8 @@ pub seat-behind : (q r : Slot) (m : ℕ)
     → seat r ≡ seatBehind m (seat q)
 unfolding seat
 seat-behind q r m e f g =
-    let n : r .here % 4_294_967_296 ≡ q .here % 4_294_967_296 + m = omega arith in
-    let d : r .here / 4_294_967_296 ≡ q .here / 4_294_967_296 = omega arith in
+    let n : r .here % level ≡ q .here % level + m = omega arith in
+    let d : r .here / level ≡ q .here / level = omega arith in
     λ i. record { number = n i; parent = g i; depth = d i }
 
 -- ---- a row in the seat of a slot

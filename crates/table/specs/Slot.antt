@@ -12,10 +12,13 @@ pub record Seat : Type 0 where
   pub parent : ℕ
   pub depth : ℕ
 
+-- One level deeper, in the word of a slot that number and depth share.
+abbrev pub level : ℕ
+level = 4_294_967_296
+
 -- What a slot of the code says: number and depth are the low and the high half of one word.
 unfoldable pub seat : Slot → Seat
-seat q =
-    record { number = q .here % 4_294_967_296; parent = q .parent; depth = q .here / 4_294_967_296 }
+seat q = record { number = q .here % level; parent = q .parent; depth = q .here / level }
 
 -- Inside the record here.
 abbrev pub seatInside : Seat → Seat

@@ -33,7 +33,8 @@ const DEPTH: usize = 6;
 // One level deeper, in the word that a number and a depth share.
 const LEVEL: usize = 4_294_967_296;
 
-// Where a reader stands in the table: the number of its next record plus LEVEL for each record that it stands in; and the innermost of those. (Two words travel through the calls of a reader where three would.)
+// Where a reader stands in the table: the number of its next record plus LEVEL for each record that it stands in; and the
+// innermost of those. So two words travel through each call of a reader, and not three.
 pub struct Slot {
     pub here: usize,
     pub parent: usize,
@@ -145,7 +146,8 @@ fn put_cut(t: &mut [u32], slot: Slot, w: Node)
     put_word(t, DEPTH, slot.depth());
 }
 
-// A node's row at the front of the part. In a check there is no word of a table, in a read room for the row: so one test or two.
+// A node's row at the front of the part. A check lends no word of a table, a read room for the row: so there is one test, or
+// two.
 pub fn put_node(t: &mut [u32], slot: Slot, w: Node)
     requires { ⌜ Words (seat slot) (w .kind) (w .start) (w .end) (w .extra) (w .below) ⌝ }
     ensures { λ _. ⌜ Stored 0 (seat slot) (w .kind) (w .start) (w .end) (w .extra) (w .below) (now (t .entry)) (now (t .exit)) ⌝ }

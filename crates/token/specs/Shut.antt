@@ -10,7 +10,7 @@ use Rattle.table.specs.Slot.{Seat, seatInside, seatBehind}
 use Rattle.table.specs.Contract.{Stored}
 use Rattle.table.specs.Reader.{MadeOf}
 
--- A record at `at`, in the slot q, has v records below it so far. Behind them a closing tag at c was read, whose answer
+-- A record at `at`, in the seat q, has v records below it so far. Behind them a closing tag at c was read, whose answer
 -- is x; where that is a refusal, so is r; else the tag's rows were stored, and then the record's own.
 pub record Shut (r : Ans) (x : Answer) (s : List ℕ) (kind extra at c v : ℕ) (q : Seat) (t t′ : List ℕ) : Type 0 where
   pub closed : Ans
