@@ -124,6 +124,6 @@ module _ (q : Slot) {k a z x : ℕ} (m : ℕ) (w : Words (seat q) k a z x m) whe
           small = w .4;
         }
 
-pub ruleset row-steps = (needs, parent-word, after-word, depth-word, whole-stored, row-stored)
+pub ruleset row-steps = (needs, parent-word, after-word, depth-word, row-stored)
 
 pub ruleset seat-steps = (needs, low-half, high-half, inside-word, behind-word, seat-inside, seat-behind)

@@ -1,3 +1,4 @@
+use borrow.Author.Needs.{needs}
 use Rattle.table.proofs.put_cut.Statement.{statement}
 use Rattle.table.proofs.put_cut.Tie as tie
 use Rattle.table.proofs.Seats.{row-steps}
@@ -6,25 +7,25 @@ put-three-requires : tie.Need-put-three-requires
 put-three-requires c κs = search row-steps
 
 number-requires : tie.Need-number-requires
-number-requires c κs = search row-steps
+number-requires c κs = search needs
 
 add-put-three : tie.Need-add-put-three
-add-put-three c = search row-steps
+add-put-three c = search needs
 
 add-put-three-2 : tie.Need-add-put-three-2
-add-put-three-2 c = search row-steps
+add-put-three-2 c = search needs
 
 put-three-requires-2 : tie.Need-put-three-requires-2
 put-three-requires-2 c κs = search row-steps
 
 depth-requires : tie.Need-depth-requires
-depth-requires c κs = search row-steps
+depth-requires c κs = search needs
 
 put-word-requires : tie.Need-put-word-requires
 put-word-requires c κs = search row-steps
 
 same-length : tie.Need-same-length
-same-length c = search row-steps
+same-length c = search needs
 
 returns : tie.Need-returns
 returns c = search row-steps
