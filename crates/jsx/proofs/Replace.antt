@@ -430,8 +430,8 @@ module _ (reading : ℕ → Rule) (rd : Readable reading) (l : Limits) (small : 
     -- the input stays accepted, and is read with the run's reading inside;
     pub stays : ReadAs l reading (refilled s (meant .spot) y) (fill (meant .spot) v)
     -- in front, rows stay, but that the records around the content have their `end` and `after` moved; then the run's
-    -- rows moved along, with the record j for parent and so much deeper; behind, all places and numbers of records behind the content
-    -- are moved.
+    -- rows moved along, with the record j for parent and so much deeper; behind, all places and numbers of records
+    -- behind the content are moved.
     pub now : rowsOf (fill (meant .spot) v) ≡ eachRow
         (widened (recordsBefore (meant .spot)) (changeOf (meant .inner) v)) (meant .rows .ahead)
         ++ (moved (bytesBefore (meant .spot)) (recordsBefore (meant .spot)) (contentDeeper (rowsOf u) j) missing j

@@ -16,7 +16,7 @@ tree = group (node 1 1) (group (node 18 0) (byte 60 nil) (group (content 63) inC
     inContent : Forest
     inContent = group (node 11 0) (byte 123 (group (node 15 0) (byte 97 nil) nil)) nil
 
--- A row's depth counts the nodes around its node: 0, 1, 1 and 2. A content counts nothing, whatever depth is left in it.
+-- A row's depth counts the nodes around its node: 0, 1, 1 and 2. A content counts nothing, whatever depth is left.
 pub depth-counts-nodes : records 0 0 99 0 tree ≡ row 1 0 4 99 4 1 0
     (row 18 0 1 0 2 0 1 (row 11 1 3 0 4 0 1 (row 15 2 3 2 4 0 2 [])))
 unfolding records tree count width
