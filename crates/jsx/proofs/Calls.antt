@@ -2,7 +2,7 @@
 use Prim.Native.Nat.{ℕ, _+_, _*_, _/_, _<_, _≤_}
 use mathlib.Core.Bool.{true, false}
 use mathlib.Core.Path.{_≡_, refl, ap}
-use mathlib.Core.List.{List, [], _∷_}
+use mathlib.Core.List.{List, [], _∷_, _++_}
 use native.Mathlib.Omega.{arith}
 use lib.ListN.{length, replicate, length-replicate}
 use borrow.Author.Tests.{lt-ltb, le-ltb}
@@ -128,7 +128,8 @@ spans = (refl, refl, refl)
 
 -- Of that input the program prints the count, and a line for each record.
 pub prints : output viewInput
-    ≡ bytesOf "ok 6\n0 1 0 9 - 6 1 0\n1 18 0 3 0 3 0 1\n2 3 1 2 1 3 0 2\n3 14 3 5 0 4 0 1\n4 17 5 9 0 6 0 1\n5 3 7 8 4 6 0 2\n"
+    ≡ bytesOf "ok 6\n0 1 0 9 - 6 1 0\n1 18 0 3 0 3 0 1\n2 3 1 2 1 3 0 2\n"
+    ++ bytesOf "3 14 3 5 0 4 0 1\n4 17 5 9 0 6 0 1\n5 3 7 8 4 6 0 2\n"
 unfolding wholeLanguage
 prints = refl
 
