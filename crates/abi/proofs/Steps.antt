@@ -7,7 +7,7 @@ use lib.ListN.{length, getD}
 use borrow.Author.Needs.{needs}
 use Rattle.rules.specs.Record.{rowWords}
 use Rattle.jsx.specs.Table.{Part, noPart, spanPart, recordPart}
-use Rattle.table.proofs.Parts.{span-turned, span-past, span-is, record-from-count, record-past, record-is}
+use Rattle.part.proofs.Parts.{span-turned, span-past, span-is, record-from-count, record-past, record-is}
 use Rattle.stage.specs.declared.Reply.{Reply}
 use Rattle.stage.specs.declared.Reply.the-variants.{Accepted, Refused}
 use Rattle.abi.specs.Said.{Says, SaysPart}

@@ -8,7 +8,7 @@ use mathlib.Core.List.{List}
 use denote.Ref.{RefT}
 use Rattle.rules.specs.Rule.{Rule}
 use Rattle.jsx.specs.Table.{Part}
-use Rattle.table.specs.Contract.{Answered}
+use Rattle.part.specs.Contract.{Answered}
 use Rattle.stage.specs.declared.Reply.{Reply}
 use Rattle.stage.specs.Call.{Checks, Reads}
 

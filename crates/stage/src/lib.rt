@@ -6,7 +6,7 @@ ghost use lib.ListN.{length};
 ghost use Rattle.jsx.specs.Reading.{stage, run};
 ghost use Rattle.jsx.specs.Table.{spanPart, recordPart};
 ghost use Rattle.table.specs.Slot.{seat};
-ghost use Rattle.table.specs.Contract.{Answered};
+ghost use Rattle.part.specs.Contract.{Answered};
 ghost use Rattle.table.specs.Reader.{Made};
 ghost use Rattle.stage.specs.Call.{replyOf, whole as wholeSeat, Sound, Checks, Reads};
 use lex::Ans;
@@ -165,7 +165,7 @@ pub fn read_run(s: &[u8], t: &mut [u32]) -> Reply
 pub fn span_bytes<'a>(s: &'a [u8], start: usize, end: usize, found: &mut bool) -> &'a [u8]
     ensures { λ r. ⌜ Answered (s .entry) (spanPart (now (s .entry)) start end) r (now (found .exit)) ⌝ }
 {
-    table::span_bytes(s, start, end, found)
+    part::span_bytes(s, start, end, found)
 }
 
 // The bytes of a record, by its number, of a table that is lent with its count; and whether there is such a record and
@@ -179,5 +179,5 @@ pub fn record_bytes<'a>(
 ) -> &'a [u8]
     ensures { λ r. ⌜ Answered (s .entry) (recordPart (now (s .entry)) (now (t .entry)) count number) r (now (found .exit)) ⌝ }
 {
-    table::record_bytes(s, t, count, number, found)
+    part::record_bytes(s, t, count, number, found)
 }

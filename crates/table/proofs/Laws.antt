@@ -5,7 +5,8 @@ use Prim.Native.Nat.{ℕ, suc, _+_, _*_, _-_, _≤_, _<_, _^_}
 use native.Mathlib.Nat.{zero-add, suc-add, add-suc}
 use native.Mathlib.Omega.{arith}
 use native.Mathlib.Decide.{decLt}
-use lib.ListN.{length, set, take, drop, take-append-drop, length-drop, drop-of-length-le}
+use lib.ListN.{length, getD, set, take, drop, take-append-drop, length-drop, drop-of-length-le}
+use lib.ListN.{List·getD-eq-default}
 use lib.Seq.{sets, sets-eq, set-comm, set-out, length-take-le, take-all, take-set-le}
 use borrow.Author.Needs.{needs}
 use borrow.Rule.Slice.PartMut.{putMid, midOf}
@@ -198,3 +199,11 @@ pub row-out : (t : List ℕ) {q : Seat} {kind a z x : ℕ} (m : ℕ)
 row-out t {q} {kind} {a} {z} {x} m w h = stored-none t 0 q kind a z x m h (w .4)
 
 pub ruleset writer-steps = (needs, word-stored, word-out, three-stored, row-out)
+
+-- ---- one word
+
+-- A word past the end is 0.
+pub no-word : (t : List ℕ) (k : ℕ) → length t ≤ k → 0 ≡ getD t k 0
+no-word t k h = sym (List·getD-eq-default t 0 h)
+
+pub ruleset word-steps = (needs, no-word)

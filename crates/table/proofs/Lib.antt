@@ -2,8 +2,6 @@
 pub mod Seats
 -- Stores into a table.
 pub mod Laws
--- Which part of an input a span or a record is, and what answers it.
-pub mod Parts
 -- A reader that writes: to close a return of one, and what its answer says.
 pub mod Made
 -- A rule on its way: a law for each step of a reader's code.

@@ -1,12 +1,9 @@
--- What the contracts of the table's writers and readers say.
+-- What the contracts of the table's writers say.
 use Prim.Native.Nat.{ℕ, _+_, _≤_, _<_, _^_}
 use mathlib.Core.Path.{_≡_}
-use mathlib.Core.Bool.{Bool}
 use mathlib.Core.List.{List, []}
-use denote.Ref.{RefT}
 use lib.Seq.{sets}
 use Rattle.rules.specs.Record.{row}
-use Rattle.jsx.specs.Table.{Part, bytesIn}
 use Rattle.table.specs.Slot.{Seat}
 
 -- Where the part from the word k on starts in a table of l words: at k, or at the end.
@@ -38,10 +35,3 @@ nodeRow q k a z x m = row k a z (q .parent) (q .number + (1 + m)) x (q .depth) [
 pub record Stored (k : ℕ) (q : Seat) (kind start end extra below : ℕ) (t t′ : List ℕ) : Type 0 where
   pub is : t′ ≡ sets t k (nodeRow q kind start end extra below)
   pub small : q .number + (1 + below) < 2 ^ 32
-
--- A part p of the input s is answered by r: p's bytes, lent from the place in s where p starts; and by whether p was
--- found.
-pub record Answered (s : RefT (List ℕ)) (p : Part) (r : RefT (List ℕ)) (found : Bool) : Type 0 where
-  pub tells : found ≡ p .found
-  pub bytes : r .now ≡ bytesIn (s .now) p
-  pub place : r .ptr ≡ (s .ptr .0, s .ptr .1 + p .start)

@@ -1,6 +1,6 @@
 -- Where a reader stands in the table.
 pub mod Slot
--- What writers, and the readers of bytes, promise.
+-- What writers promise.
 pub mod Contract
 -- What a reader that writes asks and promises.
 pub mod Reader

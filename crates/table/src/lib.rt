@@ -1,13 +1,12 @@
-// The record table: where a reader stands in it, rows stored into a part that is lent, and the bytes of a record.
+// The record table: where a reader stands in it, and rows stored into a part that is lent.
 // Chapter 'The table'.
 ghost use mathlib.Core.Path.{_≡_};
 ghost use mathlib.Core.List.{[], _∷_};
 ghost use Prim.Native.Nat.{_+_, _≤_, _<_, _^_};
 ghost use lib.ListN.{length, getD};
 ghost use Rattle.rules.specs.Record.{rowWords};
-ghost use Rattle.jsx.specs.Table.{noPart, spanPart, recordPart};
 ghost use Rattle.table.specs.Slot.{seat, seatInside, seatBehind};
-ghost use Rattle.table.specs.Contract.{Start, Enterable, Words, Put, Stored, Answered};
+ghost use Rattle.table.specs.Contract.{Start, Enterable, Words, Put, Stored};
 
 // The words of a row.
 pub const ROW_WORDS: usize = 7;
@@ -176,47 +175,4 @@ pub fn table_word(t: &[u32], k: usize) -> u32
     ensures { λ r. ⌜ r ≡ getD (now (t .entry)) k 0 ⌝ }
 {
     if k < t.len() { t[k] } else { 0 }
-}
-
-// No bytes: the empty part at the input's start.
-fn no_bytes<'a>(s: &'a [u8], found: &mut bool) -> &'a [u8]
-    ensures { λ r. ⌜ Answered (s .entry) noPart r (now (found .exit)) ⌝ }
-{
-    *found = false;
-    &s[0..0]
-}
-
-// The bytes from start to end, as the part of the input itself, and whether that is in range.
-pub fn span_bytes<'a>(s: &'a [u8], start: usize, end: usize, found: &mut bool) -> &'a [u8]
-    ensures { λ r. ⌜ Answered (s .entry) (spanPart (now (s .entry)) start end) r (now (found .exit)) ⌝ }
-{
-    if end < start {
-        return no_bytes(s, found);
-    }
-    if s.len() < end {
-        return no_bytes(s, found);
-    }
-    *found = true;
-    &s[start..end]
-}
-
-// The bytes of a record, by its number, of a table that is lent with its count; and whether there is such a record and its span is in range.
-pub fn record_bytes<'a>(
-    s: &'a [u8],
-    t: &[u32],
-    count: usize,
-    number: usize,
-    found: &mut bool,
-) -> &'a [u8]
-    ensures { λ r. ⌜ Answered (s .entry) (recordPart (now (s .entry)) (now (t .entry)) count number) r (now (found .exit)) ⌝ }
-{
-    if count <= number {
-        return no_bytes(s, found);
-    }
-    if t.len() / ROW_WORDS <= number {
-        return no_bytes(s, found);
-    }
-    let start = table_word(t, ROW_WORDS * number + START) as usize;
-    let end = table_word(t, ROW_WORDS * number + END) as usize;
-    span_bytes(s, start, end, found)
 }

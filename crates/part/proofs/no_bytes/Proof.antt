@@ -1,7 +1,7 @@
 -- The empty part at the start answers no part.
-use Rattle.table.proofs.Parts.{part-steps}
-use Rattle.table.proofs.no_bytes.Statement.{statement}
-use Rattle.table.proofs.no_bytes.Tie as tie
+use Rattle.part.proofs.Parts.{part-steps}
+use Rattle.part.proofs.no_bytes.Statement.{statement}
+use Rattle.part.proofs.no_bytes.Tie as tie
 
 sub-result : tie.Need-sub-result
 sub-result c = search part-steps

@@ -1,7 +1,7 @@
 -- Each test of the code is one of the span.
-use Rattle.table.proofs.Parts.{part-steps}
-use Rattle.table.proofs.span_bytes.Statement.{statement}
-use Rattle.table.proofs.span_bytes.Tie as tie
+use Rattle.part.proofs.Parts.{part-steps}
+use Rattle.part.proofs.span_bytes.Statement.{statement}
+use Rattle.part.proofs.span_bytes.Tie as tie
 
 no-bytes-requires : tie.Need-no-bytes-requires
 no-bytes-requires c κs = search part-steps

@@ -5,7 +5,7 @@ use mathlib.Core.List.{List, []}
 use Prim.Native.Nat.{ℕ, _+_, _*_, _/_, _≤_, _<_}
 use native.Mathlib.Omega.{arith}
 use native.Mathlib.Nat.{add-comm}
-use lib.ListN.{length, getD, List·getD-eq-default}
+use lib.ListN.{length, getD}
 use lib.Dec.{leb, ltb}
 use borrow.Author.Tests.{le-leb, lt-leb, lt-ltb, le-ltb}
 use borrow.Author.Needs.{needs}
@@ -14,7 +14,7 @@ use denote.Ref.{RefT}
 use Rattle.rules.specs.Parse.{pick}
 use Rattle.rules.specs.Record.{rowWords}
 use Rattle.jsx.specs.Table.{Part, noPart, spanPart, recordPart, holds, tableWord, bytesIn}
-use Rattle.table.specs.Contract.{Answered}
+use Rattle.part.specs.Contract.{Answered}
 
 -- ---- which part it is
 
@@ -106,10 +106,6 @@ module _ (s : RefT (List ℕ)) (t : List ℕ) (m k : ℕ) {r : RefT (List ℕ)} 
       → Answered s (recordPart (s .now) t m k) r f
   answers-record h l p q x = answered-as x (record-is (s .now) t m k h l p q)
 
--- A word past the end is 0.
-pub no-word : (t : List ℕ) (k : ℕ) → length t ≤ k → 0 ≡ getD t k 0
-no-word t k h = sym (List·getD-eq-default t 0 h)
-
 pub ruleset part-steps = (
   needs,
   answers-none,
@@ -119,7 +115,6 @@ pub ruleset part-steps = (
   answers-uncounted,
   answers-no-row,
   answers-record,
-  no-word,
 )
 
 -- Any two answers say the same, have the same bytes and stand at the same place.

@@ -1,0 +1,2 @@
+-- What the calls for bytes promise.
+pub mod Contract
