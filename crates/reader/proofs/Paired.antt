@@ -29,7 +29,7 @@ use Rattle.table.specs.Reader.{counted, MadeOf, Made}
 use Rattle.table.proofs.Laws.{stored, headed, rows-none}
 use Rattle.table.proofs.Made.{made-got, made-count, made-done, refused}
 use Rattle.tag.proofs.Verdict.{closedBy}
-use Rattle.token.specs.Shut.{Shut}
+use Rattle.row.specs.Shut.{Shut}
 
 -- ---- rows
 

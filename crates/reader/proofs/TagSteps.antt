@@ -46,7 +46,7 @@ use Rattle.tag.specs.Token.{goesOn}
 use Rattle.tag.specs.Close.{Opening, nameFrom, nameCount, closing, closingNamed}
 use Rattle.tag.proofs.Rules.{goes-element-name, bare-end}
 use Rattle.tag.proofs.Verdict.{closedBy, opening-name, no-name, paired-named, paired-plain}
-use Rattle.token.specs.Shut.{Shut}
+use Rattle.row.specs.Shut.{Shut}
 use Rattle.reader.specs.declared.Tagged.{Tagged}
 use Rattle.reader.specs.declared.Tagged.the-variants.{Got, No}
 use Rattle.reader.specs.Cut.{inTag}

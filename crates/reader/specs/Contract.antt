@@ -17,7 +17,7 @@ use Rattle.table.specs.Reader.{Room, Made}
 use Rattle.same.specs.Contract.{Named}
 use Rattle.tag.specs.declared.Opened.{Opened}
 use Rattle.tag.specs.Close.{nameCount, closingNamed}
-use Rattle.token.specs.Shut.{Shut}
+use Rattle.row.specs.Shut.{Shut}
 use Rattle.reader.specs.declared.Tagged.{Tagged}
 use Rattle.reader.specs.declared.Tagged.the-variants.{Got, No}
 use Rattle.reader.specs.Cut.{inTag}

@@ -415,7 +415,7 @@ fn expr(t: &mut [u32], s: &[u8], at: usize, d: usize, slot: Slot) -> Ans
     let Ans::Got(e, m) = r else {
         return r;
     };
-    token::put_plain(t, EXPRESSION, at, e, m, slot);
+    row::put_plain(t, EXPRESSION, at, e, m, slot);
     Ans::Got(e, m + 1)
 }
 
@@ -447,7 +447,7 @@ fn held(t: &mut [u32], s: &[u8], at: usize, q: usize, d: usize, slot: Slot) -> A
     let Ans::Got(z, m) = r else {
         return r;
     };
-    token::put_plain(t, CONTAINER, at, z, m, slot);
+    row::put_plain(t, CONTAINER, at, z, m, slot);
     Ans::Got(z, m + 1)
 }
 
@@ -482,7 +482,7 @@ fn spread(t: &mut [u32], s: &[u8], at: usize, q: usize, kind: usize, d: usize, s
     let Ans::Got(z, m) = r else {
         return r;
     };
-    token::put_plain(t, kind, at, z, m, slot);
+    row::put_plain(t, kind, at, z, m, slot);
     Ans::Got(z, m + 1)
 }
 
@@ -560,7 +560,7 @@ fn attr(t: &mut [u32], s: &[u8], at: usize, d: usize, slot: Slot) -> Ans
     let Ans::Got(z, m) = r2 else {
         return r2;
     };
-    token::put_plain(t, ATTRIBUTE, at, z, m, slot);
+    row::put_plain(t, ATTRIBUTE, at, z, m, slot);
     Ans::Got(z, m + 1)
 }
 
@@ -623,7 +623,7 @@ fn content(t: &mut [u32], s: &[u8], name: Opened, p: usize, v: usize, d: usize, 
     let Ans::Got(c, k) = r else {
         return r;
     };
-    token::shut(t, s, name, c, v + k, slot)
+    row::shut(t, s, name, c, v + k, slot)
 }
 
 // An element and its record, with d levels inside it.
@@ -636,9 +636,9 @@ fn named(t: &mut [u32], s: &[u8], at: usize, a: usize, d: usize, slot: Slot) -> 
     let Tagged::Got(z, m, e, k, goes) = r else {
         return plain(r);
     };
-    token::put_opening(t, at, z, m, slot);
+    row::put_opening(t, at, z, m, slot);
     if goes == 0 {
-        token::put_plain(t, ELEMENT, at, z, m + 1, slot);
+        row::put_plain(t, ELEMENT, at, z, m + 1, slot);
         return Ans::Got(z, m + 2);
     }
     content(
@@ -662,13 +662,13 @@ fn frag(t: &mut [u32], s: &[u8], at: usize, a: usize, d: usize, slot: Slot) -> A
     requires { ⌜ Room 3 (now s) at (seat slot) × Past a (now s) pass at 1 × (byteAt (now s) a ≡ 62) ⌝ }
     ensures { λ r. ⌜ Made r (now (s .entry)) (fragmentIn d (within d)) at 1 (seat slot) 0 (now (t .entry)) (now (t .exit)) ⌝ }
 {
-    token::put_opening(t, at, a + 1, 0, slot);
+    row::put_opening(t, at, a + 1, 0, slot);
     let i = table::start(t.len(), 2 * ROW_WORDS);
     let r = children(&mut t[i..], s, a + 1, d, slot.inside().behind(1));
     let Ans::Got(c, k) = r else {
         return r;
     };
-    token::shut_fragment(t, s, at, a + 1, c, k + 1, slot)
+    row::shut_fragment(t, s, at, a + 1, c, k + 1, slot)
 }
 
 // An element or a fragment.
@@ -692,7 +692,7 @@ fn child(t: &mut [u32], s: &[u8], at: usize, d: usize, slot: Slot) -> Ans
 {
     let b = lex::byte(s, at);
     if text::in_text(b) {
-        return token::text(t, s, at, slot);
+        return row::text(t, s, at, slot);
     }
     if b == LESS {
         let r = blank::pass(s, at);
@@ -714,7 +714,7 @@ fn child(t: &mut [u32], s: &[u8], at: usize, d: usize, slot: Slot) -> Ans
         };
         let c = lex::byte(s, q);
         if c == CLOSE_BRACE {
-            return token::empty_braces(t, s, at, q, slot);
+            return row::empty_braces(t, s, at, q, slot);
         }
         if c == DOT {
             return spread(t, s, at, q, SPREAD_CHILD, d - 1, slot);

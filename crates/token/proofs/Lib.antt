@@ -8,9 +8,3 @@ pub mod DeepSteps
 pub mod OperatorSteps
 -- What stands between two readers: a comma, `=`, `:` and the like, each with its blanks.
 pub mod BetweenSteps
--- The row of an opening tag.
-pub mod RowSteps
--- A text, and empty braces, with their rows.
-pub mod BracesSteps
--- The end of an element or a fragment, with its row.
-pub mod ShutSteps

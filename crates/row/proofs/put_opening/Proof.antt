@@ -1,6 +1,6 @@
-use Rattle.token.proofs.put_opening.Statement.{statement}
-use Rattle.token.proofs.put_opening.Tie as tie
-use Rattle.token.proofs.RowSteps.{opening-steps}
+use Rattle.row.proofs.put_opening.Statement.{statement}
+use Rattle.row.proofs.put_opening.Tie as tie
+use Rattle.row.proofs.RowSteps.{opening-steps}
 
 inside-requires : tie.Need-inside-requires
 inside-requires c κs = search opening-steps

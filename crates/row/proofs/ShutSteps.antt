@@ -19,7 +19,7 @@ use Rattle.table.specs.Contract.{Enterable, Start, Words, Stored}
 use Rattle.table.specs.Reader.{Room, MadeOf}
 use Rattle.table.proofs.Laws.{lent}
 use Rattle.tag.proofs.OpenedSteps.{opening-copy}
-use Rattle.token.specs.Shut.{Shut}
+use Rattle.row.specs.Shut.{Shut}
 
 -- A reader that was lent the part from the word k on.
 pub made-of-lent : {r : Ans} {x : Answer} {s : List ℕ} {at j : ℕ} {q : Seat} (t : List ℕ) {u : List ℕ} {k a : ℕ}

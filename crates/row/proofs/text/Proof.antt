@@ -1,6 +1,6 @@
-use Rattle.token.proofs.text.Statement.{statement}
-use Rattle.token.proofs.text.Tie as tie
-use Rattle.token.proofs.BracesSteps.{text-steps}
+use Rattle.row.proofs.text.Statement.{statement}
+use Rattle.row.proofs.text.Tie as tie
+use Rattle.row.proofs.BracesSteps.{text-steps}
 
 read-jsx-text-requires : tie.Need-read-jsx-text-requires
 read-jsx-text-requires c κs = search text-steps

@@ -1,6 +1,6 @@
-use Rattle.token.proofs.shut.Statement.{statement}
-use Rattle.token.proofs.shut.Tie as tie
-use Rattle.token.proofs.ShutSteps.{shut-steps, shut-asked}
+use Rattle.row.proofs.shut.Statement.{statement}
+use Rattle.row.proofs.shut.Tie as tie
+use Rattle.row.proofs.ShutSteps.{shut-steps, shut-asked}
 
 add-start : tie.Need-add-start
 add-start c = search shut-asked

@@ -1,6 +1,6 @@
-use Rattle.token.proofs.empty_braces.Statement.{statement}
-use Rattle.token.proofs.empty_braces.Tie as tie
-use Rattle.token.proofs.BracesSteps.{empty-steps, empty-asked}
+use Rattle.row.proofs.empty_braces.Statement.{statement}
+use Rattle.row.proofs.empty_braces.Tie as tie
+use Rattle.row.proofs.BracesSteps.{empty-steps, empty-asked}
 
 inside-requires : tie.Need-inside-requires
 inside-requires c κs = search empty-asked

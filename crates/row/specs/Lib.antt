@@ -1,0 +1,2 @@
+-- The end of an element or a fragment, with its record.
+pub mod Shut
