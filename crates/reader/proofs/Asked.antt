@@ -29,8 +29,8 @@ use Rattle.table.specs.Slot.{Seat, seatInside, seatBehind}
 use Rattle.table.specs.Contract.{Enterable, Words}
 use Rattle.table.specs.Reader.{Room, Made}
 use Rattle.table.proofs.Asked.{reader-asked, room-here, leaf-inside, past-inside}
-use Rattle.tag.specs.declared.Opened.{Opened}
-use Rattle.tag.specs.Close.{Opening}
+use Rattle.closing.specs.declared.Opened.{Opened}
+use Rattle.closing.specs.Close.{Opening}
 use Rattle.reader.specs.declared.Tagged.{Tagged}
 use Rattle.reader.specs.declared.Tagged.the-variants as T
 use Rattle.reader.specs.Contract.{plain, TagMade, Ready}

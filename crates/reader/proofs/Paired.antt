@@ -28,7 +28,7 @@ use Rattle.table.specs.Contract.{nodeRow, Stored}
 use Rattle.table.specs.Reader.{counted, MadeOf, Made}
 use Rattle.table.proofs.Laws.{stored, headed, rows-none}
 use Rattle.table.proofs.Made.{made-got, made-count, made-done, refused}
-use Rattle.tag.proofs.Verdict.{closedBy}
+use Rattle.closing.proofs.Verdict.{closedBy}
 use Rattle.row.specs.Shut.{Shut}
 
 -- ---- rows

@@ -41,11 +41,11 @@ use Rattle.table.proofs.Made.{made-no, made-got, made-count, made-lent, made-do
 use Rattle.table.proofs.Upto.{Upto, upto-begin, made-stops, made-goes, last-leaf-stops}
 use Rattle.same.specs.Contract.{Named}
 use Rattle.same.proofs.Forms.{nameAt}
-use Rattle.tag.specs.declared.Opened.{Opened}
+use Rattle.closing.specs.declared.Opened.{Opened}
 use Rattle.tag.specs.Token.{goesOn}
-use Rattle.tag.specs.Close.{Opening, nameFrom, nameCount, closing, closingNamed}
+use Rattle.closing.specs.Close.{Opening, nameFrom, nameCount, closing, closingNamed}
 use Rattle.tag.proofs.Rules.{goes-element-name, bare-end}
-use Rattle.tag.proofs.Verdict.{closedBy, opening-name, no-name, paired-named, paired-plain}
+use Rattle.closing.proofs.Verdict.{closedBy, opening-name, no-name, paired-named, paired-plain}
 use Rattle.row.specs.Shut.{Shut}
 use Rattle.reader.specs.declared.Tagged.{Tagged}
 use Rattle.reader.specs.declared.Tagged.the-variants.{Got, No}

@@ -15,8 +15,8 @@ use Rattle.lex.specs.declared.Ans.the-variants as A
 use Rattle.table.specs.Slot.{Seat, seatInside, seatBehind}
 use Rattle.table.specs.Reader.{Room, Made}
 use Rattle.same.specs.Contract.{Named}
-use Rattle.tag.specs.declared.Opened.{Opened}
-use Rattle.tag.specs.Close.{nameCount, closingNamed}
+use Rattle.closing.specs.declared.Opened.{Opened}
+use Rattle.closing.specs.Close.{nameCount, closingNamed}
 use Rattle.row.specs.Shut.{Shut}
 use Rattle.reader.specs.declared.Tagged.{Tagged}
 use Rattle.reader.specs.declared.Tagged.the-variants.{Got, No}

@@ -16,10 +16,11 @@ ghost use Rattle.jsx.specs.Depth.{within};
 ghost use Rattle.lex.specs.Contract.{Past};
 ghost use Rattle.table.specs.Slot.{seat};
 ghost use Rattle.table.specs.Reader.{Room, Made};
-ghost use Rattle.tag.specs.Close.{Opening};
+ghost use Rattle.closing.specs.Close.{Opening};
 ghost use Rattle.reader.specs.Cut.{groupBy, arguments, tailOf, operandTurn, armsOf, inContainer, inSpread};
 ghost use Rattle.reader.specs.Cut.{inAttribute};
 ghost use Rattle.reader.specs.Contract.{TagMade, Ready, Content, ChildMade, plain as plainOf};
+use closing::Opened;
 use lex::Ans;
 use lex::bytes::BANG;
 use lex::bytes::CLOSE_BRACE;
@@ -47,7 +48,6 @@ use lex::refusal::TOO_DEEP;
 use lex::refusal::UNEXPECTED;
 use table::ROW_WORDS;
 use table::Slot;
-use tag::Opened;
 
 // What the reader of an opening tag answers.
 pub enum Tagged {

@@ -18,7 +18,7 @@ use Rattle.table.specs.Slot.{Seat, seatInside, seatBehind, rowsFrom}
 use Rattle.table.specs.Contract.{Enterable, Start, Words, Stored}
 use Rattle.table.specs.Reader.{Room, MadeOf}
 use Rattle.table.proofs.Laws.{lent}
-use Rattle.tag.proofs.OpenedSteps.{opening-copy}
+use Rattle.closing.proofs.OpenedSteps.{opening-copy}
 use Rattle.row.specs.Shut.{Shut}
 
 -- A reader that was lent the part from the word k on.

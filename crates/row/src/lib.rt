@@ -14,8 +14,9 @@ ghost use Rattle.lex.specs.Contract.{Past};
 ghost use Rattle.table.specs.Slot.{seat, seatInside, seatBehind};
 ghost use Rattle.table.specs.Contract.{Words, Stored};
 ghost use Rattle.table.specs.Reader.{Room, Made};
-ghost use Rattle.tag.specs.Close.{Opening, closing, closingNamed};
+ghost use Rattle.closing.specs.Close.{Opening, closing, closingNamed};
 ghost use Rattle.row.specs.Shut.{Shut};
+use closing::Opened;
 use lex::Ans;
 use lex::kind::CONTAINER;
 use lex::kind::ELEMENT;
@@ -26,7 +27,6 @@ use lex::kind::TEXT;
 use table::Node;
 use table::ROW_WORDS;
 use table::Slot;
-use tag::Opened;
 
 // The row of a record of this kind from `at` to z, with m records below it and 0 for its extra word.
 pub fn put_plain(t: &mut [u32], kind: usize, at: usize, z: usize, m: usize, slot: Slot)
@@ -104,7 +104,7 @@ pub fn shut(t: &mut [u32], s: &[u8], name: Opened, c: usize, v: usize, slot: Slo
         (now (t .entry)) (now (t .exit)) ⌝ }
 {
     let i = table::start(t.len(), ROW_WORDS * (v + 1));
-    let r = tag::close(&mut t[i..], s, name, c, slot.inside().behind(v));
+    let r = closing::close(&mut t[i..], s, name, c, slot.inside().behind(v));
     let Ans::Got(z, k) = r else {
         return r;
     };
@@ -138,7 +138,7 @@ pub fn shut_fragment(
         (now (t .entry)) (now (t .exit)) ⌝ }
 {
     let i = table::start(t.len(), ROW_WORDS * (v + 1));
-    let r = tag::close_fragment(&mut t[i..], s, at, e, c, slot.inside().behind(v));
+    let r = closing::close_fragment(&mut t[i..], s, at, e, c, slot.inside().behind(v));
     let Ans::Got(z, k) = r else {
         return r;
     };

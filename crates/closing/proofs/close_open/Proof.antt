@@ -1,6 +1,6 @@
-use Rattle.tag.proofs.OpenedSteps.{close-asked, less-steps}
-use Rattle.tag.proofs.close_open.Statement.{statement}
-use Rattle.tag.proofs.close_open.Tie as tie
+use Rattle.closing.proofs.OpenedSteps.{close-asked, less-steps}
+use Rattle.closing.proofs.close_open.Statement.{statement}
+use Rattle.closing.proofs.close_open.Tie as tie
 
 open-by-requires : tie.Need-open-by-requires
 open-by-requires c κs = search close-asked

@@ -1,6 +1,6 @@
-use Rattle.tag.proofs.CloseSteps.{named-asked, named-steps}
-use Rattle.tag.proofs.close_named.Statement.{statement}
-use Rattle.tag.proofs.close_named.Tie as tie
+use Rattle.closing.proofs.CloseSteps.{named-asked, named-steps}
+use Rattle.closing.proofs.close_named.Statement.{statement}
+use Rattle.closing.proofs.close_named.Tie as tie
 
 start-requires : tie.Need-start-requires
 start-requires c κs = search named-asked

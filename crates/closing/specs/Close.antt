@@ -13,8 +13,8 @@ use Rattle.jsx.specs.Tag.{closeTag}
 use Rattle.jsx.specs.Closing.{TagName, furtherOn, nameIn, compared}
 use Rattle.lex.specs.Contract.{outOf, bytesFrom, Past}
 use Rattle.same.specs.Contract.{Named}
-use Rattle.tag.specs.declared.Opened.{Opened}
+use Rattle.closing.specs.declared.Opened.{Opened}
 use Rattle.tag.specs.Token.{closeOpen}
 
 -- A closing tag at c, with the verdict on it and on a tag that begins at `at`, is w wide and has the name q.
 unfoldable pub closing : List ℕ → (at w : ℕ) → TagName → (c : ℕ) → Answer

@@ -38,15 +38,15 @@ use Rattle.table.proofs.Upto.{last-leaf, node-made, node-no}
 use Rattle.table.proofs.Asked.{leaf-inside, made-inside, enter-here, room-here}
 use Rattle.same.specs.Contract.{Named, sameNames}
 use Rattle.same.proofs.Forms.{nameAt}
-use Rattle.tag.specs.declared.Opened.{Opened}
+use Rattle.closing.specs.declared.Opened.{Opened}
 use Rattle.tag.specs.Token.{closeBy, closeOpen}
-use Rattle.tag.specs.Close.{Opening, Slashed, nameFrom, closing, closingNamed}
+use Rattle.closing.specs.Close.{Opening, Slashed, nameFrom, closing, closingNamed}
 use Rattle.tag.proofs.Rules.{goes-close, bare-close, goes-close-open, bare-close-open}
 use Rattle.tag.proofs.Rules.{goes-element-name, goes-close-name}
-use Rattle.tag.proofs.Repeated.{none-at-shut}
-use Rattle.tag.proofs.Verdict.{NodeAt, node-at, inClosing, close-opened, close-is, close-bare, closing-no}
-use Rattle.tag.proofs.Verdict.{closing-same, closing-differs, closing-by-name, closing-bare, closing-plain}
-use Rattle.tag.proofs.OpenedSteps.{opening-copy}
+use Rattle.closing.proofs.Repeated.{none-at-shut}
+use Rattle.closing.proofs.Verdict.{NodeAt, node-at, inClosing, close-opened, close-is, close-bare, closing-no}
+use Rattle.closing.proofs.Verdict.{closing-same, closing-differs, closing-by-name, closing-bare, closing-plain}
+use Rattle.closing.proofs.OpenedSteps.{opening-copy}
 
 -- ---- answers under a verdict
 

@@ -1,6 +1,6 @@
-use Rattle.tag.proofs.CloseSteps.{read-asked, read-steps}
-use Rattle.tag.proofs.close_read.Statement.{statement}
-use Rattle.tag.proofs.close_read.Tie as tie
+use Rattle.closing.proofs.CloseSteps.{read-asked, read-steps}
+use Rattle.closing.proofs.close_read.Statement.{statement}
+use Rattle.closing.proofs.close_read.Tie as tie
 
 close-open-requires : tie.Need-close-open-requires
 close-open-requires c κs = search read-asked

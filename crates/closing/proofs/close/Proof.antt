@@ -1,6 +1,6 @@
-use Rattle.tag.proofs.OpenedSteps.{close-asked}
-use Rattle.tag.proofs.close.Statement.{statement}
-use Rattle.tag.proofs.close.Tie as tie
+use Rattle.closing.proofs.OpenedSteps.{close-asked}
+use Rattle.closing.proofs.close.Statement.{statement}
+use Rattle.closing.proofs.close.Tie as tie
 
 sub-closes : tie.Need-sub-closes
 sub-closes c = search close-asked

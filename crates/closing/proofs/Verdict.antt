@@ -27,9 +27,9 @@ use Rattle.lex.proofs.Laws as Lex
 use Rattle.lex.proofs.Bare.{Flat}
 use Rattle.same.specs.Contract.{ReadsAt, Named}
 use Rattle.same.proofs.Forms.{nameAt, Shape, Form, one, several, begins, form-there}
 use Rattle.tag.specs.Token.{openBy, closeBy, closeOpen}
-use Rattle.tag.specs.Close.{nameFrom, closing}
-use Rattle.tag.proofs.Repeated.{none-at-shut, moves-part}
+use Rattle.closing.specs.Close.{nameFrom, closing}
+use Rattle.closing.proofs.Repeated.{none-at-shut, moves-part}
 
 -- ---- names in forests
 

@@ -1,6 +1,6 @@
-use Rattle.tag.proofs.CloseSteps.{by-name-steps, named-asked}
-use Rattle.tag.proofs.close_by_name.Statement.{statement}
-use Rattle.tag.proofs.close_by_name.Tie as tie
+use Rattle.closing.proofs.CloseSteps.{by-name-steps, named-asked}
+use Rattle.closing.proofs.close_by_name.Statement.{statement}
+use Rattle.closing.proofs.close_by_name.Tie as tie
 
 inside-requires : tie.Need-inside-requires
 inside-requires c κs = search named-asked

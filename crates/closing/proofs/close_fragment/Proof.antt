@@ -1,6 +1,6 @@
-use Rattle.tag.proofs.CloseSteps.{fragment-steps, read-asked}
-use Rattle.tag.proofs.close_fragment.Statement.{statement}
-use Rattle.tag.proofs.close_fragment.Tie as tie
+use Rattle.closing.proofs.CloseSteps.{fragment-steps, read-asked}
+use Rattle.closing.proofs.close_fragment.Statement.{statement}
+use Rattle.closing.proofs.close_fragment.Tie as tie
 
 close-open-requires : tie.Need-close-open-requires
 close-open-requires c κs = search read-asked

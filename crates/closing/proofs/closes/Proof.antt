@@ -1,6 +1,6 @@
-use Rattle.tag.proofs.OpenedSteps.{close-asked, closes-steps}
-use Rattle.tag.proofs.closes.Statement.{statement}
-use Rattle.tag.proofs.closes.Tie as tie
+use Rattle.closing.proofs.OpenedSteps.{close-asked, closes-steps}
+use Rattle.closing.proofs.closes.Statement.{statement}
+use Rattle.closing.proofs.closes.Tie as tie
 
 sub-if1 : tie.Need-sub-if1
 sub-if1 c = search close-asked

@@ -28,10 +28,10 @@ use Rattle.table.proofs.Asked.{enter-here}
 use Rattle.name.specs.Contract.{Spelt}
 use Rattle.name.proofs.Parts.{one-made}
 use Rattle.same.proofs.Forms.{one-low}
-use Rattle.tag.specs.declared.Opened.{Opened}
-use Rattle.tag.specs.Close.{Closes, Opening, closing, closingNamed}
-use Rattle.tag.proofs.Repeated.{inClosed, closedForest, part-there, close-judged, one-by-count}
-use Rattle.tag.proofs.OpenedSteps.{name-longer, name-ordered}
+use Rattle.closing.specs.declared.Opened.{Opened}
+use Rattle.closing.specs.Close.{Closes, Opening, closing, closingNamed}
+use Rattle.closing.proofs.Repeated.{inClosed, closedForest, part-there, close-judged, one-by-count}
+use Rattle.closing.proofs.OpenedSteps.{name-longer, name-ordered}
 
 -- ---- what is in the tag's node
 

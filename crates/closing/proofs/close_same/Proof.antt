@@ -1,6 +1,6 @@
-use Rattle.tag.proofs.RepeatedSteps.{same-asked, same-steps}
-use Rattle.tag.proofs.close_same.Statement.{statement}
-use Rattle.tag.proofs.close_same.Tie as tie
+use Rattle.closing.proofs.RepeatedSteps.{same-asked, same-steps}
+use Rattle.closing.proofs.close_same.Statement.{statement}
+use Rattle.closing.proofs.close_same.Tie as tie
 
 add-e : tie.Need-add-e
 add-e c = search same-asked

@@ -18,11 +18,11 @@ use Rattle.lex.specs.declared.Ans.{Ans}
 use Rattle.lex.specs.declared.Ans.the-variants.{Got, No}
 use Rattle.lex.proofs.Laws as Lex
 use Rattle.table.proofs.Asked.{reader-asked}
-use Rattle.tag.specs.declared.Opened.{Opened}
+use Rattle.closing.specs.declared.Opened.{Opened}
 use Rattle.tag.specs.Token.{openBy, closeOpen}
-use Rattle.tag.specs.Close.{Closes, Told, Opening}
+use Rattle.closing.specs.Close.{Closes, Told, Opening}
 use Rattle.tag.proofs.Rules.{goes-open, moves-element-name}
 use Rattle.tag.proofs.TokenSteps.{two-stop, two-are}
 
 -- ---- `</`, a name's bytes, `>`
 

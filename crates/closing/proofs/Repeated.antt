@@ -30,8 +30,8 @@ use Rattle.lex.proofs.Laws as Lex
 use Rattle.blank.proofs.Laws.{blank-other, blank-slash}
 use Rattle.same.specs.Contract.{ReadsAt, Named}
 use Rattle.same.proofs.Forms.{nameAt, kindOf, one-low, begins, blanks-behind}
-use Rattle.tag.specs.Close.{Closes, nameFrom, closing, nameCount}
-use Rattle.tag.proofs.SamePart.{part-again, part-opens}
+use Rattle.closing.specs.Close.{Closes, nameFrom, closing, nameCount}
+use Rattle.closing.proofs.SamePart.{part-again, part-opens}
 
 -- ---- a byte that opens a name, and `>`, are no blank
 

@@ -1,0 +1,2 @@
+-- A closing tag, with the verdict on it.
+pub mod Close
