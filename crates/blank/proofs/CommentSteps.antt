@@ -9,7 +9,7 @@ use lib.Dec.{lit<}
 use lib.ListN.{length}
 use borrow.Author.Tests.{not-true, not-false}
 use Rattle.rules.specs.Parse.{byteAt, opens}
-use Rattle.jsx.specs.Refusal.{unexpected, neverClosed}
+use Rattle.jsx.specs.Refusal.{unexpected, commentNeverClosed}
 use Rattle.jsx.specs.Byte.{bytesOf, end, lineEnd, _or_}
 use Rattle.jsx.specs.Blank.{commentTurn, comment, lineTurn, lineComment}
 use Rattle.lex.specs.Contract.{nothing, Leaf}
@@ -29,7 +29,7 @@ module _
     {b : ℕ} (y : b ≡ byteAt s p)
   where
     -- The input ends.
-    pub comment-open : b ≡ 256 → Leaf nothing (No neverClosed at at 0 0) s comment at 4
+    pub comment-open : b ≡ 256 → Leaf nothing (No commentNeverClosed at at 0 0) s comment at 4
     comment-open x =
         Lex.leaf-stop nothing s comment at 4 refl
         (Laws.comment-no s at h (turns-no v (Laws.comment-open s (suc (length s)) at p (Lex.byte-is y x))))

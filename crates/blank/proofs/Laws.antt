@@ -12,7 +12,7 @@ use Rattle.rules.specs.Forest.{Forest, nil, byte, _⋈_}
 use Rattle.rules.specs.Rule.{Rule, step, seq, many}
 use Rattle.rules.specs.Parse.{got, trouble, pick, behind, byteAt, opens, parse, parsed, readAt}
 use Rattle.rules.proofs.Run.{goes, never, both}
-use Rattle.jsx.specs.Refusal.{unexpected, neverClosed}
+use Rattle.jsx.specs.Refusal.{unexpected, commentNeverClosed}
 use Rattle.jsx.specs.Byte.{bytesOf, is, end, lineEnd, _or_}
 use Rattle.jsx.specs.Blank.{blankByte, commentTurn, comment, lineTurn, lineComment, blank, blanks, pass}
 use Rattle.lex.specs.Contract.{nothing, Leaf}
@@ -48,7 +48,7 @@ two-inside s p a b h e =
 
 module _ (s : List ℕ) (F e p : ℕ) where
   -- A turn of `/*`: the input ends.
-  pub comment-open : end (byteAt s p) ≡ true → parse s F commentTurn e p ≡ trouble neverClosed e e 0 0
+  pub comment-open : end (byteAt s p) ≡ true → parse s F commentTurn e p ≡ trouble commentNeverClosed e e 0 0
   unfolding parse commentTurn
   comment-open t = rw t
 

@@ -16,7 +16,7 @@ use lex::bytes::SLASH;
 use lex::bytes::SPACE;
 use lex::bytes::STAR;
 use lex::bytes::TAB;
-use lex::refusal::NEVER_CLOSED;
+use lex::refusal::COMMENT_NEVER_CLOSED;
 use lex::refusal::UNEXPECTED;
 
 // Tab, LF, VT, FF, CR (9 to 13) or space.
@@ -39,7 +39,7 @@ fn ends_line(b: u32) -> bool
     }
 }
 
-// Past the `/* .. */` that begins here; 5 at its first byte where it is never closed. The number is 0.
+// Past the `/* .. */` that begins here; 17 at its first byte where it is never closed. The number is 0.
 pub fn skip_comment(s: &[u8], at: usize) -> Ans
     requires { ⌜ at + 2 ≤ length (now s) ⌝ }
     ensures { λ r. ⌜ Leaf nothing r (now (s .entry)) comment at 4 ⌝ }
@@ -51,7 +51,7 @@ pub fn skip_comment(s: &[u8], at: usize) -> Ans
         }
         p = p + 1;
     }
-    Ans::No(NEVER_CLOSED, at, at, 0, 0)
+    Ans::No(COMMENT_NEVER_CLOSED, at, at, 0, 0)
 }
 
 // Whether U+2028 or U+2029 stands here: E2 80 A8 or E2 80 A9.

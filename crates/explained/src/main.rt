@@ -20,14 +20,20 @@ fn tokens() {
     show(b"<a b=c/>");
     show(b"<a>\n\t\t{1 +}</a>");
     show(b"<a>x");
-    show(b"<a b='c/>");
-    show(b"<a>/* x */{/* y}</a>");
     show(b"<a>1 > 0</a>");
     show(b"<f.b-/>");
     show(b"<a b={ }/>");
     show(b"<a/>\n<b/>");
     show(b"<a/> x");
     show(b"<x>{a, b}</x>");
+}
+
+fn unclosed() {
+    show(b"<a b='c/>\n  <d e=\"f\"/>\n</a>");
+    show(b"<a>/* x */{/* y}\n  {/* z}\n</a>");
+    show(b"<a>\n  {f('b', \"c)}</a>");
+    show(b"<a>\n  {f('b', \"c)}\n</a>");
+    show(b"<a>{'b\\'}</a>");
 }
 
 fn bytes() {
@@ -69,6 +75,7 @@ fn trees() {
 fn main() {
     closings();
     tokens();
+    unclosed();
     bytes();
     long_lines();
     limits();

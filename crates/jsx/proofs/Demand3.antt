@@ -28,7 +28,7 @@ use Rattle.jsx.specs.Compose.{Accepted, countOf, rowsRead, withDepth, Re
 use Rattle.jsx.specs.Compose.{joinedReadings, textsMeet, bytesBetween, replacedBytes, Closed, contentStart}
 use Rattle.jsx.specs.Compose.{contentFirst, contentEnd, contentRows, depthLeft, contentChange, replacedRows}
 use Rattle.jsx.specs.Compose.{contentDeeper, pairedRow, depthByParent, Reads}
-use Rattle.jsx.specs.Demand3.{BytesStay, AcceptedIsRead, ReadToTheEnd, EveryTable, NumbersTo16, RunsJoin}
+use Rattle.jsx.specs.Demand3.{BytesStay, AcceptedIsRead, ReadToTheEnd, EveryTable, NumbersTo18, RunsJoin}
 use Rattle.jsx.specs.Demand3.{DepthsCountAncestors}
 use Rattle.jsx.specs.Demand3.{EmptyRun, RowsFollow, TextsBecomeOne, Stands, OneClosingTag, ContentIsRun}
 use Rattle.jsx.specs.Demand3.{ContentsAreRuns, Replaces, RowsReplaced, RunsDeepen}
@@ -80,20 +80,20 @@ stage-every-table l s t h room = every-table l stage s stage-proper t h room
 pub run-every-table : EveryTable run
 run-every-table l s t h room = every-table l run s run-proper t h room
 
-numbers : {reading : ℕ → Rule} → Numbering reading → NumbersTo16 reading
+numbers : {reading : ℕ → Rule} → Numbering reading → NumbersTo18 reading
 numbers r = record {
   refusals = λ l s n a b c d e. refusal-number r l s e;
   checkNumber = λ l s. check-number r l s;
   readNumber = λ l s t. read-number r l s t;
 }
 
--- The refusals of a stage have numbers of document 01,
-pub stage-numbers-to-16 : NumbersTo16 stage
-stage-numbers-to-16 = numbers stage-numbers
+-- The refusals of a stage have numbers of the two documents,
+pub stage-numbers-to-18 : NumbersTo18 stage
+stage-numbers-to-18 = numbers stage-numbers
 
 -- and so have those of a run.
-pub run-numbers-to-16 : NumbersTo16 run
-run-numbers-to-16 = numbers run-numbers
+pub run-numbers-to-18 : NumbersTo18 run
+run-numbers-to-18 = numbers run-numbers
 
 -- A row of a reading has the depth that its parent gives it.
 row-depth : (u : Forest) → count u ≤ missing → (j : ℕ) → j < count u

@@ -14,6 +14,8 @@ pub mod EveryKind
 pub mod Readings
 -- What the depth of a record counts.
 pub mod Depths
+-- What was opened and never closed, and what is broken.
+pub mod Unclosed
 -- Limits, the table's room, the bytes of a record, and what the program prints.
 pub mod Calls
 -- ---- How the rules read
@@ -54,7 +56,7 @@ pub mod Back
 pub mod Accepted
 -- Where a text meets a text, said of rows.
 pub mod Meets
--- A refusal's number is one of 1 to 16.
+-- A refusal's number is one of 1 to 18.
 pub mod Numbers
 -- What is accepted stays accepted with more depth, with the same table.
 pub mod Deep

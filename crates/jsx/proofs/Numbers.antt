@@ -1,4 +1,4 @@
--- Every refusal has a number of document 01: one of 1 to 16.
+-- Every refusal has a number of documents 01 and 02: one of 1 to 18.
 use mathlib.Core.Path.{_≡_, refl, subst}
 use mathlib.Core.Bool.{Bool, true, false}
 use mathlib.Core.List.{List}
@@ -41,7 +41,7 @@ use Rattle.jsx.proofs.Accepted.{Proper, run-proper, stage-proper, never
 -- ---- the numbers that stand in the rules
 
 abbrev ok : ℕ → Bool
-ok n = leb n 16
+ok n = leb n 18
 
 abbrev Fine : Rule → Type 0
 Fine = NumberedBy ok
@@ -290,32 +290,32 @@ module _ {reading : ℕ → Rule} (r : Numbering reading) (l : Limits) (s : List
       (refuses-then (λ n. ok n ≡ true) (parseAll utf8 s) _ (allowed-all ok refl refl utf8 utf8-fine s)
       (λ a o p h. allowed-all ok refl refl (reading (l .depth)) (r .fine (l .depth)) s))
 
-  -- A refusal's number is one of 1 to 16.
-  pub refusal-number : {n a b c d : ℕ} → answer l reading s ≡ trouble n a b c d → (1 ≤ n) × (n ≤ 16)
+  -- A refusal's number is one of 1 to 18.
+  pub refusal-number : {n a b c d : ℕ} → answer l reading s ≡ trouble n a b c d → (1 ≤ n) × (n ≤ 18)
   refusal-number {n} e =
       let z = eqb-false n 0 (subst NotStuck e (never-zero l reading s (r .proper))) in
-      let m = leb-true n 16 (subst (Allowed ok) e allowed-answer) in
+      let m = leb-true n 18 (subst (Allowed ok) e allowed-answer) in
       (omega arith, omega arith)
 
   -- So is the check's number, or it is 0;
-  pub check-number : check l reading s .number ≤ 16
+  pub check-number : check l reading s .number ≤ 18
   unfolding check checked accepted refused
   check-number = by (answer l reading s) allowed-answer
     where
-      by : (x : Answer) → Allowed ok x → checked x .number ≤ 16
+      by : (x : Answer) → Allowed ok x → checked x .number ≤ 18
       by (got a o p) h = omega arith
-      by (trouble n a b c d) h = leb-true n 16 h
+      by (trouble n a b c d) h = leb-true n 18 h
 
   -- and so is a read's.
-  pub read-number : (t : List ℕ) → read l reading s t .number ≤ 16
+  pub read-number : (t : List ℕ) → read l reading s t .number ≤ 18
   unfolding read readInto accepted refused
   read-number t = by (answer l reading s) allowed-answer
     where
       room : (b : Bool) (m : ℕ) (rows : List ℕ)
-          → (pick b (accepted m (written rows t)) (refused tableTooSmall m 0 0 0 t)) .number ≤ 16
+          → (pick b (accepted m (written rows t)) (refused tableTooSmall m 0 0 0 t)) .number ≤ 18
       room true m rows = omega arith
       room false m rows = omega arith
 
-      by : (x : Answer) → Allowed ok x → readInto t x .number ≤ 16
+      by : (x : Answer) → Allowed ok x → readInto t x .number ≤ 18
       by (got a o p) h = room (leb (count o) (holds t)) (count o) _
-      by (trouble n a b c d) h = leb-true n 16 h
+      by (trouble n a b c d) h = leb-true n 18 h

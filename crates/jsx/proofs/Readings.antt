@@ -26,7 +26,7 @@ first-ten =
     ∷ on stage "<a>{b 'x" (at 3 6)
     ∷ on stage "<a b\"x" (at 3 4)
     ∷ on stage "<a/>\"x" (at 13 4)
-    ∷ on stage "<a /*" (at 5 3)
+    ∷ on stage "<a /*" (at 17 3)
     -- A2
     ∷ on stage (fullInBraces & "b(") (at 14 67)
     ∷ on stage (fullInBraces & "b[") (at 14 67)
@@ -54,7 +54,7 @@ first-ten =
     ∷ on stage "<a>{bé}</a>" (at 3 5)
     -- A8
     ∷ on stage "<a>{\"b\\" (at 3 6)
-    ∷ on stage "<a>{\"b\n" (at 3 6)
+    ∷ on stage "<a>{\"b\n" (span 3 4 6)
     -- A9
     ∷ on stage "/" (at 3 0)
     ∷ on stage "<a b=/" (at 3 5)
@@ -65,7 +65,7 @@ first-ten =
     ∷ on stage "<a></" (at 4 5)
     ∷ on run "</" (at 3 0)
     -- A10
-    ∷ on stage "<a/>/*/" (at 5 4)
+    ∷ on stage "<a/>/*/" (at 17 4)
     ∷ []
 
 abbrev smaller-ones : List Case
@@ -125,8 +125,8 @@ smaller-ones =
     ∷ limited (deep 3) stage "<a>{!a?b:c}</a>" (counted 7)
     ∷ limited (deep 3) stage "<a>{!a()}</a>" (at 14 6)
     -- A23
-    ∷ on stage "<a/>/*" (at 5 4)
-    ∷ on run "</*" (at 5 1)
+    ∷ on stage "<a/>/*" (at 17 4)
+    ∷ on run "</*" (at 17 1)
     ∷ on stage "<a/>//\u{2028}\n<b/>" (at 3 6)
     -- A24
     ∷ on stage "<a/><" (span 12 4 5)

@@ -1,16 +1,16 @@
 -- Blanks and comments. Chapter 'Bytes, blanks, comments'.
 use Rattle.rules.specs.Rule.{Test, Rule, stop, step, refuse, when, starts, many, marked, here, mark, _⨾_, _⇒_∣_}
-use Rattle.jsx.specs.Refusal.{unexpected, neverClosed}
+use Rattle.jsx.specs.Refusal.{unexpected, commentNeverClosed}
 use Rattle.jsx.specs.Byte.{bytesOf, is, end, lineEnd, _or_}
 
 -- D: "Blanks are tab, LF, VT, FF, CR and space".
 unfoldable pub blankByte : Test
 blankByte = is "\t" or is "\n" or is "\u{b}" or is "\u{c}" or is "\r" or is " "
 
--- D: "`/*` to the next `*/`"; never closed, 5 at "its first byte".
+-- D: "`/*` to the next `*/`". Never closed, 17 at "its first byte"; D2: "17 and 18 stand where 5 stood".
 unfoldable pub commentTurn : Rule
 commentTurn =
-    when end ⇒ refuse neverClosed mark
+    when end ⇒ refuse commentNeverClosed mark
     ∣ starts (bytesOf "*/") ⇒ stop
     ∣ step
 

@@ -47,11 +47,11 @@ abbrev pub EveryTable : (reading : ℕ → Rule) → Type 0
 EveryTable reading = (l : Limits) (s t : List ℕ) → Accepted l reading s → countOf l reading s ≤ holds t
     → read l reading s t ≡ accepted (countOf l reading s) (written (rowsRead l reading s) t)
 
--- A refusal's number is one of 1 to 16, for every list of numbers; the calls give it or 0.
-pub record NumbersTo16 (reading : ℕ → Rule) : Type 0 where
-  pub refusals : (l : Limits) (s : List ℕ) (n a b c d : ℕ) → answer l reading s ≡ trouble n a b c d → (1 ≤ n) × (n ≤ 16)
-  pub checkNumber : (l : Limits) (s : List ℕ) → check l reading s .number ≤ 16
-  pub readNumber : (l : Limits) (s t : List ℕ) → read l reading s t .number ≤ 16
+-- A refusal's number is one of 1 to 18, for every list of numbers; the calls give it or 0.
+pub record NumbersTo18 (reading : ℕ → Rule) : Type 0 where
+  pub refusals : (l : Limits) (s : List ℕ) (n a b c d : ℕ) → answer l reading s ≡ trouble n a b c d → (1 ≤ n) × (n ≤ 18)
+  pub checkNumber : (l : Limits) (s : List ℕ) → check l reading s .number ≤ 18
+  pub readNumber : (l : Limits) (s t : List ℕ) → read l reading s t .number ≤ 18
 
 -- D2: "the number of its ancestors in the table": each row has the depth that its parent gives it.
 abbrev pub DepthsCountAncestors : (reading : ℕ → Rule) → Type 0

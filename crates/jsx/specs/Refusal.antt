@@ -1,4 +1,4 @@
--- The refusal numbers. Chapter 'Refusal numbers'; each name's comment is document 01's 'given when'.
+-- The refusal numbers. Chapter 'Refusal numbers'; each name's comment is document 01's 'given when', or document 02's.
 use Prim.Native.Nat.{ℕ}
 use Rattle.rules.specs.Parse as rules
 
@@ -18,9 +18,9 @@ unexpected = 3
 abbrev pub endOfInput : ℕ
 endOfInput = rules.endOfInput
 
--- D: "quoted string or `/*` never closed"
-abbrev pub neverClosed : ℕ
-neverClosed = 5
+-- D: "quoted string .. never closed"; D2: "it stays for a quoted attribute string"
+abbrev pub quotedNeverClosed : ℕ
+quotedNeverClosed = 5
 
 -- D: "`>` or `}` in child text"
 abbrev pub strayInText : ℕ
@@ -65,3 +65,11 @@ tableTooSmall = 15
 -- D: "comma after the expression of `{expression}`"
 abbrev pub commaInBraces : ℕ
 commaInBraces = 16
+
+-- D2: "17 is an open comment"
+abbrev pub commentNeverClosed : ℕ
+commentNeverClosed = 17
+
+-- D2: "18 an open string inside braces"
+abbrev pub stringNeverClosed : ℕ
+stringNeverClosed = 18

@@ -1,7 +1,7 @@
 -- Texts and quoted attribute strings. Chapter 'Markup'.
 use Prim.Native.Char.{Char}
 use Rattle.rules.specs.Rule.{Test, Rule, stop, step, refuse, when, many, marked, mark, nodeOf, _⨾_, _⇒_∣_}
-use Rattle.jsx.specs.Refusal.{neverClosed}
+use Rattle.jsx.specs.Refusal.{quotedNeverClosed}
 use Rattle.jsx.specs.Kind as Kind
 use Rattle.jsx.specs.Byte.{is, end, _or_, none}
 
@@ -16,7 +16,7 @@ text = nodeOf Kind.text (step ⨾ many (when inText ⇒ step ∣ stop))
 -- first byte".
 unfoldable pub quotedTurn : Char → Rule
 quotedTurn q =
-    when end ⇒ refuse neverClosed mark
+    when end ⇒ refuse quotedNeverClosed mark
     ∣ when (is q) ⇒ stop
     ∣ step
 

@@ -5,10 +5,10 @@ use Prim.Native.String.{String}
 use mathlib.Core.Bool.{Bool, true, false}
 use mathlib.Core.List.{List, [], _∷_, _++_}
 use Rattle.rules.specs.Forest.{direct}
-use Rattle.rules.specs.Rule.{Rule, done, stop, step, refuse, when, many, said, marked, here, mark, _⨾_, _⇒_∣_}
+use Rattle.rules.specs.Rule.{Rule, done, stop, step, refuse, when, many, said, marked, here, mark, fromMark, _⨾_, _⇒_∣_}
 use Rattle.rules.specs.Parse.{pick}
-use Rattle.jsx.specs.Refusal.{unexpected, neverClosed}
-use Rattle.jsx.specs.Byte.{bytesOf, is, end, digit, lineEnd, need, _or_}
+use Rattle.jsx.specs.Refusal.{unexpected, stringNeverClosed}
+use Rattle.jsx.specs.Byte.{bytesOf, is, end, digit, lineEnd, need}
 use Rattle.jsx.specs.Name.{opensName, inWord, same}
 
 -- D: "Names here: letters, digits, `_`, `$`, no leading digit." D: "After a dot any name is good."
@@ -73,13 +73,14 @@ fraction =
 unfoldable pub number : Rule
 number = marked (whole ⨾ fraction ⨾ (when inWord ⇒ refuse unexpected mark ∣ done))
 
--- D: "Strings: no backslash, LF or CR"; 3 at "inside a string, the offset of the bad byte"; never closed, 5 at "its
--- first byte".
+-- D: "Strings: no backslash, LF or CR"; 3 at "inside a string, the offset of the bad byte", but D2: "broken by LF or CR
+-- now shows the whole piece, from its quote to the line end". Never closed, 18 at its quote.
 unfoldable pub stringTurn : Char → Rule
 stringTurn q =
-    when end ⇒ refuse neverClosed mark
+    when end ⇒ refuse stringNeverClosed mark
     ∣ when (is q) ⇒ stop
-    ∣ when (is "\\" or lineEnd) ⇒ refuse unexpected here
+    ∣ when (is "\\") ⇒ refuse unexpected here
+    ∣ when lineEnd ⇒ refuse unexpected fromMark
     ∣ step
 
 unfoldable pub stringBy : Char → Rule

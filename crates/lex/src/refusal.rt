@@ -1,4 +1,4 @@
-// The refusal numbers of document 01, by the names that the definition gives them.
+// The refusal numbers of documents 01 and 02, by the names that the definition gives them.
 
 pub const TOO_LONG: u32 = 1;
 
@@ -8,7 +8,7 @@ pub const UNEXPECTED: u32 = 3;
 
 pub const END_OF_INPUT: u32 = 4;
 
-pub const NEVER_CLOSED: u32 = 5;
+pub const QUOTED_NEVER_CLOSED: u32 = 5;
 
 pub const STRAY_IN_TEXT: u32 = 6;
 
@@ -31,3 +31,7 @@ pub const TOO_DEEP: u32 = 14;
 pub const TABLE_TOO_SMALL: u32 = 15;
 
 pub const COMMA_IN_BRACES: u32 = 16;
+
+pub const COMMENT_NEVER_CLOSED: u32 = 17;
+
+pub const STRING_NEVER_CLOSED: u32 = 18;

@@ -22,10 +22,10 @@ pub record EveryInputIsAnswered (reading : ℕ → Rule) : Type 0 where
 
 -- ---- "and a refusal gives its number and place from document 01"
 
--- The check's refusal is the definition's, with one of the numbers 1 to 16.
+-- The check's refusal is the definition's, with one of the numbers 1 to 18.
 abbrev pub ChecksRefuseByDefinition : (reading : ℕ → Rule) → Type 0
 ChecksRefuseByDefinition reading = (s : List ℕ) (n a b c d : ℕ) → Checks reading s (Refused n a b c d)
-    → (answer standard reading s ≡ trouble n a b c d) × (1 ≤ n) × (n ≤ 16)
+    → (answer standard reading s ≡ trouble n a b c d) × (1 ≤ n) × (n ≤ 18)
 
 -- D: 15, "accepted, but more records than the table holds", places "needed count, 0".
 pub record TooSmall (reading : ℕ → Rule) (s t : List ℕ) (n a b c d : ℕ) : Type 0 where

@@ -68,7 +68,7 @@ fn write_trouble(s: &[u8], n: u32, a: usize, z: usize, good: usize) {
     let x = spot::spot(s, p);
     let start = x.start;
     let q = words::put_spot(&mut out, x);
-    let e = words::put_refusal(&mut out, q, n);
+    let e = words::put_trouble(&mut out, q, n, a, z);
     let f = words::put_number(&mut out, e, n);
     line::write_line(&mut out, f);
     write_source(&mut out, s, start, p, z, good);

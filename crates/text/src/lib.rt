@@ -4,7 +4,7 @@ ghost use mathlib.Core.Bool.{true};
 ghost use Prim.Native.Nat.{_≤_};
 ghost use lib.ListN.{length};
 ghost use Rattle.rules.specs.Parse.{byteAt};
-ghost use Rattle.jsx.specs.Byte.{is, _or_, lineEnd, quote};
+ghost use Rattle.jsx.specs.Byte.{lineEnd, quote};
 ghost use Rattle.jsx.specs.Text.{inText, text, quoted};
 ghost use Rattle.jsx.specs.Word.{string};
 ghost use Rattle.lex.specs.Contract.{Leaf, Past, nothing};
@@ -19,7 +19,8 @@ use lex::bytes::LESS;
 use lex::bytes::LF;
 use lex::bytes::OPEN_BRACE;
 use lex::bytes::QUOTE;
-use lex::refusal::NEVER_CLOSED;
+use lex::refusal::QUOTED_NEVER_CLOSED;
+use lex::refusal::STRING_NEVER_CLOSED;
 use lex::refusal::UNEXPECTED;
 
 pub fn in_text(b: u32) -> bool
@@ -66,18 +67,17 @@ pub fn read_jsx_string_literal(s: &[u8], at: usize) -> Ans
         }
         p = p + 1;
     }
-    Ans::No(NEVER_CLOSED, at, at, 0, 0)
+    Ans::No(QUOTED_NEVER_CLOSED, at, at, 0, 0)
 }
 
-// A backslash or a line end.
-fn is_bad_in_string(b: u32) -> bool
-    ensures { λ r. ⌜ r ≡ (is "\\" or lineEnd) b ⌝ }
+fn is_line_end(b: u32) -> bool
+    ensures { λ r. ⌜ r ≡ lineEnd b ⌝ }
 {
-    b == BACKSLASH || (b == LF || b == CR)
+    b == LF || b == CR
 }
 
-// A string inside braces, whose quote was seen; the number is 0. A backslash or a line end is 3 there; never closed:
-// 5 at its first byte.
+// A string inside braces, whose quote was seen; the number is 0. A backslash is 3 there; LF or CR is 3 from the quote
+// to it; never closed: 18 at its first byte.
 pub fn read_string(s: &[u8], at: usize) -> Ans
     requires { ⌜ (at ≤ length (now s)) × (quote (byteAt (now s) at) ≡ true) ⌝ }
     ensures { λ r. ⌜ Leaf nothing r (now (s .entry)) string at 2 ⌝ }
@@ -87,13 +87,16 @@ pub fn read_string(s: &[u8], at: usize) -> Ans
     loop {
         let b = lex::byte(s, p);
         if b == END {
-            return Ans::No(NEVER_CLOSED, at, at, 0, 0);
+            return Ans::No(STRING_NEVER_CLOSED, at, at, 0, 0);
         }
         if b == q {
             return Ans::Got(p + 1, 0);
         }
-        if is_bad_in_string(b) {
+        if b == BACKSLASH {
             return Ans::No(UNEXPECTED, p, p, 0, 0);
+        }
+        if is_line_end(b) {
+            return Ans::No(UNEXPECTED, at, p, 0, 0);
         }
         p = p + 1;
     }

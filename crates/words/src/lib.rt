@@ -3,6 +3,7 @@
 ghost use Prim.Native.Nat.{_≤_};
 ghost use lib.ListN.{length};
 use lex::refusal::TABLE_TOO_SMALL;
+use lex::refusal::UNEXPECTED;
 use spot::Place;
 
 // The bytes of a record that are shown at most.
@@ -24,7 +25,11 @@ pub fn put_refusal(out: &mut [u8], at: usize, n: u32) -> usize
             at,
             b"the input ends here, and something is still needed",
         ),
-        5 => line::put_text(out, at, b"this is never closed"),
+        5 => line::put_text(
+            out,
+            at,
+            b"this quoted attribute string is never closed: its quote does not come again",
+        ),
         6 => line::put_text(
             out,
             at,
@@ -56,8 +61,29 @@ fn put_later_refusal(out: &mut [u8], at: usize, n: u32) -> usize
             at,
             b"the table has room for fewer records than are needed, which is ",
         ),
-        _ => line::put_text(out, at, b"a comma stands behind the expression in braces"),
+        16 => line::put_text(out, at, b"a comma stands behind the expression in braces"),
+        17 => line::put_text(out, at, b"this comment is never closed: no */ follows"),
+        _ => line::put_text(
+            out,
+            at,
+            b"this string in braces is never closed: its quote does not come again",
+        ),
     }
+}
+
+// What a refusal with places means: the only 3 that is longer than one offset is a broken string.
+pub fn put_trouble(out: &mut [u8], at: usize, n: u32, a: usize, z: usize) -> usize
+    requires { ⌜ at ≤ length (now out) ⌝ }
+    ensures { λ r. ⌜ r ≤ length (now (out .exit)) ⌝ }
+{
+    if n == UNEXPECTED && a < z {
+        return line::put_text(
+            out,
+            at,
+            b"the line ends inside this string in braces: close it on its own line",
+        );
+    }
+    put_refusal(out, at, n)
 }
 
 // `(refusal N)` behind the words.

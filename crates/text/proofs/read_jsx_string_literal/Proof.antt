@@ -2,13 +2,14 @@ use Rattle.text.proofs.Asked.{asked}
 use Prim.Native.Nat.{_-_}
 use lib.ListN.{length}
 use Rattle.rules.specs.Rule.{step}
+use Rattle.jsx.specs.Refusal.{quotedNeverClosed}
 use Rattle.text.proofs.QuoteSteps.{Quoted}
 use Rattle.text.proofs.read_jsx_string_literal.Statement.{statement}
 use Rattle.text.proofs.read_jsx_string_literal.Tie as tie
 use Rattle.text.proofs.QuoteSteps.{quote-steps}
 
 abbrev Inv-loop : tie.InvT-loop
-Inv-loop s at q p₀ p = Quoted step s at q p
+Inv-loop s at q p₀ p = Quoted quotedNeverClosed step s at q p
 
 abbrev μ-loop : tie.MeasureT-loop
 μ-loop s at q p₀ p = length s - p

@@ -1,13 +1,14 @@
 use Rattle.text.proofs.Asked.{asked}
 use Prim.Native.Nat.{_-_}
 use lib.ListN.{length}
+use Rattle.jsx.specs.Refusal.{stringNeverClosed}
 use Rattle.text.proofs.QuoteSteps.{Quoted, inString}
 use Rattle.text.proofs.read_string.Statement.{statement}
 use Rattle.text.proofs.read_string.Tie as tie
 use Rattle.text.proofs.QuoteSteps.{quote-steps}
 
 abbrev Inv-loop : tie.InvT-loop
-Inv-loop s at q p₀ p = Quoted inString s at q p
+Inv-loop s at q p₀ p = Quoted stringNeverClosed inString s at q p
 
 abbrev μ-loop : tie.MeasureT-loop
 μ-loop s at q p₀ p = length s - p
@@ -33,11 +34,14 @@ add-t7 c = search asked
 returns-2 : tie.Need-returns-2 Inv-loop μ-loop
 returns-2 c = search quote-steps
 
-is-bad-in-string-requires : tie.Need-is-bad-in-string-requires Inv-loop μ-loop
-is-bad-in-string-requires c κs = search asked
-
 returns-3 : tie.Need-returns-3 Inv-loop μ-loop
 returns-3 c = search quote-steps
+
+is-line-end-requires : tie.Need-is-line-end-requires Inv-loop μ-loop
+is-line-end-requires c κs = search asked
+
+returns-4 : tie.Need-returns-4 Inv-loop μ-loop
+returns-4 c = search quote-steps
 
 add-p-2 : tie.Need-add-p-2 Inv-loop μ-loop
 add-p-2 c = search asked
@@ -61,8 +65,9 @@ read-string-spec =
     returns
     add-t7
     returns-2
-    is-bad-in-string-requires
     returns-3
+    is-line-end-requires
+    returns-4
     add-p-2
     loop-less
     loop-again)
