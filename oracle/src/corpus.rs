@@ -12,7 +12,7 @@ use crate::{read, Answer, Limits, Refusal};
 use std::collections::BTreeMap;
 
 /// The faults that the writer can plant.
-const PLANTED: [u32; 13] = [2, 3, 4, 5, 6, 7, 8, 9, 10, 11, 12, 13, 16];
+const PLANTED: [u32; 15] = [2, 3, 4, 5, 6, 7, 8, 9, 10, 11, 12, 13, 16, 17, 18];
 const VALID: usize = 300;
 const PLANTED_EACH: usize = 50;
 const DAMAGED_EACH: usize = 220;
@@ -39,6 +39,16 @@ const BEGINNINGS: [(&str, &str); 12] = [
     ("braces-element", "<a>{<b/>"),
 ];
 
+/// Bytes that close, break or open a string or a comment.
+const QUOTES_AND_LINE_ENDS: &[u8] = b"'\"\\\n\r*/";
+
+/// Beginnings that leave a string in braces, a quoted attribute string or a comment open.
+const OPEN_BEGINNINGS: [(&str, &str); 3] = [
+    ("open-string", "<a>{'"),
+    ("open-quoted", "<a b='"),
+    ("open-comment", "<a/*"),
+];
+
 pub fn corpus() -> Vec<Case> {
     let mut cases = Vec::new();
     named_inputs(&mut cases);
@@ -48,24 +58,23 @@ pub fn corpus() -> Vec<Case> {
     damaged(&mut cases);
     deep_ones(&mut cases);
     short(&mut cases);
-    short_after_beginnings(&mut cases);
+    short_after_beginnings(&mut cases, &BEGINNINGS, MORE, 2);
+    short_after_beginnings(&mut cases, &OPEN_BEGINNINGS, QUOTES_AND_LINE_ENDS, 3);
     cases
 }
 
-/// One input by its seed: valid, with a planted fault, some bytes, the same behind a beginning, a deep one's end, or valid and
-/// then damaged.
+/// One input by its seed: valid, with a planted fault, some bytes, the same behind a beginning or behind one that leaves
+/// something open, a deep one's end, or valid and then damaged.
 pub fn random(seed: u64) -> (Reading, Vec<u8>) {
     let mut random = Random::seeded(seed);
     let reading = if random.once_in(2) { Stage } else { Run };
-    let bytes = match random.below(10) {
+    let bytes = match random.below(11) {
         0 => write(seed, reading, None).bytes,
         1 => return planted_by(&mut random, seed),
-        2 => some_bytes(&mut random),
-        3 => {
-            let (_, beginning) = BEGINNINGS[random.below(BEGINNINGS.len())];
-            [beginning.as_bytes(), &some_bytes(&mut random)].concat()
-        }
-        4 => deep::tail(&mut random),
+        2 => some_bytes(&mut random, MORE),
+        3 => behind_one_of(&mut random, &BEGINNINGS, MORE),
+        4 => behind_one_of(&mut random, &OPEN_BEGINNINGS, QUOTES_AND_LINE_ENDS),
+        5 => deep::tail(&mut random),
         _ => {
             let mut bytes = write(seed, reading, None).bytes;
             for _ in 0..=random.below(2) {
@@ -78,22 +87,31 @@ pub fn random(seed: u64) -> (Reading, Vec<u8>) {
     (reading, bytes)
 }
 
+/// Fewer chances are let pass where so many find no place for the fault; an input with no place for it at all is valid.
 fn planted_by(random: &mut Random, seed: u64) -> (Reading, Vec<u8>) {
     let number = PLANTED[random.below(PLANTED.len())];
-    let (reading, chances) = match number {
+    let (reading, mut chances) = match number {
         13 => (Stage, 0),
         _ => (if seed % 2 == 0 { Stage } else { Run }, random.below(12)),
     };
-    (
-        reading,
-        write(seed, reading, Some(Plan { number, chances })).bytes,
-    )
+    loop {
+        let written = write(seed, reading, Some(Plan { number, chances }));
+        if written.planted.is_some() || chances == 0 {
+            return (reading, written.bytes);
+        }
+        chances /= 2;
+    }
 }
 
-fn some_bytes(random: &mut Random) -> Vec<u8> {
+fn behind_one_of(random: &mut Random, beginnings: &[(&str, &str)], alphabet: &[u8]) -> Vec<u8> {
+    let (_, beginning) = beginnings[random.below(beginnings.len())];
+    [beginning.as_bytes(), &some_bytes(random, alphabet)].concat()
+}
+
+fn some_bytes(random: &mut Random, alphabet: &[u8]) -> Vec<u8> {
     let length = random.below(10);
     (0..length)
-        .map(|_| MORE[random.below(MORE.len())])
+        .map(|_| alphabet[random.below(alphabet.len())])
         .collect()
 }
 
@@ -213,7 +231,7 @@ fn planted(cases: &mut Vec<Case>) {
 
 type Damage = fn(&mut Random, &[u8]) -> Vec<u8>;
 
-const DAMAGES: [(&str, Damage); 9] = [
+const DAMAGES: [(&str, Damage); 10] = [
     ("damaged-lost", lost),
     ("damaged-flipped", flipped),
     ("damaged-changed", changed),
@@ -222,6 +240,7 @@ const DAMAGES: [(&str, Damage); 9] = [
     ("damaged-doubled", doubled),
     ("damaged-put-in", put_in),
     ("damaged-swapped", swapped),
+    ("damaged-opened", opened),
     ("damaged-utf8", utf8),
 ];
 
@@ -301,6 +320,28 @@ fn swapped(random: &mut Random, bytes: &[u8]) -> Vec<u8> {
     [&bytes[..start], other, one, &bytes[end..]].concat()
 }
 
+/// A quote or the `*` of a comment's end is lost, or a line end, a backslash or the end of input comes right behind it;
+/// where there is none, a string or a comment is opened.
+fn opened(random: &mut Random, bytes: &[u8]) -> Vec<u8> {
+    let closes = |at: &usize| matches!(bytes[*at], b'"' | b'\'') || bytes[*at..].starts_with(b"*/");
+    let places: Vec<usize> = (0..bytes.len()).filter(closes).collect();
+    if places.is_empty() {
+        let at = random.below(bytes.len() + 1);
+        let opener = random.one_of::<[u8]>(&[b"/*", b"\"", b"{'"]);
+        return [&bytes[..at], opener, &bytes[at..]].concat();
+    }
+    let at = places[random.below(places.len())];
+    let behind = at + 1;
+    match random.below(3) {
+        0 => [&bytes[..at], &bytes[behind..]].concat(),
+        1 => bytes[..behind].to_vec(),
+        _ => {
+            let bad = random.one_of::<[u8]>(&[b"\n", b"\r", b"\r\n", b"\\"]);
+            [&bytes[..behind], bad, &bytes[behind..]].concat()
+        }
+    }
+}
+
 /// Sequences at both ends of what is good and of what isn't.
 const SEQUENCES: [&[u8]; 22] = [
     b"\x7F",
@@ -367,11 +408,16 @@ fn short(cases: &mut Vec<Case>) {
     }
 }
 
-/// Every two bytes after each of the beginnings.
-fn short_after_beginnings(cases: &mut Vec<Case>) {
-    for (name, beginning) in BEGINNINGS {
+/// Every so many bytes of the alphabet after each of the beginnings.
+fn short_after_beginnings(
+    cases: &mut Vec<Case>,
+    beginnings: &[(&str, &str)],
+    alphabet: &[u8],
+    length: usize,
+) {
+    for (name, beginning) in beginnings {
         let class = format!("short-{name}");
-        for tail in all_of_length(MORE, 2) {
+        for tail in all_of_length(alphabet, length) {
             let input = [beginning.as_bytes(), &tail].concat();
             cases.push(Case::answered(Stage, &class, input));
         }
@@ -583,7 +629,7 @@ mod tests {
         // 15 needs a table that is too small; the program's tests have it.
         assert_eq!(
             numbers,
-            [0, 1, 2, 3, 4, 5, 6, 7, 8, 9, 10, 11, 12, 13, 14, 16]
+            [0, 1, 2, 3, 4, 5, 6, 7, 8, 9, 10, 11, 12, 13, 14, 16, 17, 18]
         );
         let mut kinds: Vec<u32> = cases.iter().flat_map(|case| words_of(case, 0)).collect();
         kinds.sort();

@@ -129,7 +129,7 @@ impl<'a> Cursor<'a> {
     }
 
     /// D: "`/*` to the next `*/`". A10: the `*` of `/*` isn't also the `*` of `*/`.
-    /// D: "5 | .. `/*` never closed | its first byte".
+    /// D2: "17 is an open comment"; "17 and 18 stand where 5 stood": at its first byte.
     fn block_comment(&mut self) -> Result<(), Refusal> {
         let inside = self.at + 2;
         let length = self.input[inside..].windows(2).position(|w| w == b"*/");
@@ -138,7 +138,7 @@ impl<'a> Cursor<'a> {
                 self.at = inside + length + 2;
                 Ok(())
             }
-            None => Err(Refusal::at(5, self.at)),
+            None => Err(Refusal::at(17, self.at)),
         }
     }
 

@@ -59,7 +59,7 @@ const EXPRESSION: [Level; 4] = [
 ];
 
 /// What may stand at the 64th level and try the 65th.
-const CHILD_TAILS: [&str; 15] = [
+const CHILD_TAILS: [&str; 16] = [
     "<",
     "< ",
     "<!",
@@ -73,12 +73,13 @@ const CHILD_TAILS: [&str; 15] = [
     "x",
     "}",
     "{/*",
+    "{\"",
     "{//\u{2028}",
     "{ @",
 ];
-const EXPRESSION_TAILS: [&str; 24] = [
+const EXPRESSION_TAILS: [&str; 27] = [
     "-", "--", "!", "b?", "b??", "b?.", "b(", "b[", "(", "<", "<!", "<b", "<>", "b..c", "f()()",
-    "if", "1.", "-/*", "b?/*", "b(/*", "(/*", "b[/*", "!@", "</*",
+    "if", "1.", "-/*", "b?/*", "b(/*", "(/*", "b[/*", "!@", "</*", "'", "(\"", "'x\n",
 ];
 const ATTRIBUTE_TAILS: [&str; 11] = [
     "b={", "b={}", "{", "{.", "b=<", "b=<c", "b=<>", "b='", "b={/*", "{/*", "b=</*",

@@ -288,14 +288,16 @@ impl Cursor<'_> {
         (end > whole + 1).then_some(end)
     }
 
-    /// D: "Strings: no backslash, LF or CR."; "inside a string, the offset of the bad byte";
-    /// "5 | quoted string .. never closed". A8: the bad byte is met first.
+    /// D: "Strings: no backslash, LF or CR."; "inside a string, the offset of the bad byte". D2: "A string in braces broken by
+    /// LF or CR now shows the whole piece, from its quote to the line end, still as 3"; "18 an open string inside braces".
+    /// 3.4: the first bad byte counts; 18 only where the end is reached without one.
     fn string(&mut self) -> Result<(), Refusal> {
         let start = self.at;
         let quote = self.input[start];
         for offset in start + 1..self.input.len() {
             match self.input[offset] {
-                b'\\' | b'\n' | b'\r' => return Err(Refusal::at(3, offset)),
+                b'\\' => return Err(Refusal::at(3, offset)),
+                b'\n' | b'\r' => return Err(Refusal::over(3, (start, offset))),
                 byte if byte == quote => {
                     self.take_to(offset + 1);
                     return Ok(());
@@ -303,7 +305,7 @@ impl Cursor<'_> {
                 _ => {}
             }
         }
-        Err(Refusal::at(5, start))
+        Err(Refusal::at(18, start))
     }
 }
 

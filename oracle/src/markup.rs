@@ -191,7 +191,7 @@ impl Cursor<'_> {
     }
 
     /// D: "A quoted attribute string ends at the first same quote. No escapes; line ends allowed."
-    /// D: "5 | quoted string .. never closed | its first byte"; "10 quoted string with its quotes".
+    /// D2: "Split 5: it stays for a quoted attribute string", D: "its first byte"; "10 quoted string with its quotes".
     fn quoted_attribute_string(&mut self) -> Result<Node, Refusal> {
         let start = self.at;
         let quote = self.input[start];

@@ -15,7 +15,7 @@ pub struct Named {
 type Row = (&'static str, Reading, &'static [u8], &'static str);
 
 pub fn named() -> Vec<Named> {
-    let tables: [&[Row]; 7] = [
+    let tables: [&[Row]; 8] = [
         MARKED,
         MARKUP,
         BRACES,
@@ -23,6 +23,7 @@ pub fn named() -> Vec<Named> {
         READINGS,
         SMALLER_READINGS,
         REQUEST_5,
+        REQUEST_3,
     ];
     let mut all: Vec<Named> = tables.into_iter().flatten().map(of_row).collect();
     all.extend(words());
@@ -201,8 +202,8 @@ const BRACES: &[Row] = &[
     ("numbers", Stage, b"<a>{1.5.", "no 4 8 8 0 0"),
     ("strings", Stage, b"<a>{\"x\" + 'y'}</a>", "ok 7"),
     ("strings", Stage, b"<a>{'b\\'}</a>", "no 3 6 6 0 0"),
-    ("strings", Stage, b"<a>{'b\rc'}</a>", "no 3 6 6 0 0"),
-    ("strings", Stage, b"<a>{'b", "no 5 4 4 0 0"),
+    ("strings", Stage, b"<a>{'b\rc'}</a>", "no 3 4 6 0 0"),
+    ("strings", Stage, b"<a>{'b", "no 18 4 4 0 0"),
     ("`++`", Stage, b"<a>{b++}</a>", "no 3 5 5 0 0"),
     ("`++`", Stage, b"<a>{++b}</a>", "no 3 4 4 0 0"),
     ("`++` at the end", Stage, b"<a>{b++", "no 3 5 5 0 0"),
@@ -253,8 +254,8 @@ const BYTES: &[Row] = &[
     ("comments", Stage, b"/*c*/<a/>/*d*/", "ok 3"),
     ("comments", Stage, b"//c\n<a/>//d", "ok 3"),
     ("comments", Stage, b"//c\r<a/>", "ok 3"),
-    ("comments", Stage, b"/* never", "no 5 0 0 0 0"),
-    ("comments", Stage, b"<a>{/*}</a>", "no 5 4 4 0 0"),
+    ("comments", Stage, b"/* never", "no 17 0 0 0 0"),
+    ("comments", Stage, b"<a>{/*}</a>", "no 17 4 4 0 0"),
     ("U+2028", Stage, b"<a/>//\xE2\x80\xA8", "no 3 6 6 0 0"),
     ("U+2029", Stage, b"<a/>//\xE2\x80\xA9", "no 3 6 6 0 0"),
     ("U+202A", Stage, b"<a/>//\xE2\x80\xAA", "ok 3"),
@@ -285,7 +286,7 @@ const READINGS: &[Row] = &[
     ("A1", Stage, b"<a>{b 'x", "no 3 6 6 0 0"),
     ("A1", Stage, b"<a b\"x", "no 3 4 4 0 0"),
     ("A1", Stage, b"<a/>\"x", "no 13 4 4 0 0"),
-    ("A1", Stage, b"<a /*", "no 5 3 3 0 0"),
+    ("A1", Stage, b"<a /*", "no 17 3 3 0 0"),
     ("A5", Stage, b"<a>{b..c}</a>", "no 3 6 6 0 0"),
     ("A5", Stage, b"<a>{b...c}</a>", "no 3 6 6 0 0"),
     ("A5", Stage, b"<a>{1 ...c}</a>", "no 3 7 7 0 0"),
@@ -297,7 +298,7 @@ const READINGS: &[Row] = &[
     ("A7", Stage, b"<a\xC3\xA9/>", "no 3 2 2 0 0"),
     ("A7", Stage, b"<a>{b\xC3\xA9}</a>", "no 3 5 5 0 0"),
     ("A8", Stage, b"<a>{\"b\\", "no 3 6 6 0 0"),
-    ("A8", Stage, b"<a>{\"b\n", "no 3 6 6 0 0"),
+    ("A8", Stage, b"<a>{\"b\n", "no 3 4 6 0 0"),
     ("A9", Stage, b"/", "no 3 0 0 0 0"),
     ("A9", Stage, b"<a b=/", "no 3 5 5 0 0"),
     ("A9", Stage, b"<a:/", "no 3 3 3 0 0"),
@@ -306,7 +307,7 @@ const READINGS: &[Row] = &[
     ("A9", Stage, b"<a></", "no 4 5 5 0 0"),
     ("A9", Run, b"</", "no 3 0 0 0 0"),
     ("A9", Run, b"x</", "no 3 1 1 0 0"),
-    ("A10", Stage, b"<a/>/*/", "no 5 4 4 0 0"),
+    ("A10", Stage, b"<a/>/*/", "no 17 4 4 0 0"),
     ("A11", Stage, b"</a>", "no 3 1 1 0 0"),
     ("A11", Stage, b"<a b=</a>", "no 3 6 6 0 0"),
     ("A11", Stage, b"<a>{</a>}", "no 3 5 5 0 0"),
@@ -340,8 +341,8 @@ const SMALLER_READINGS: &[Row] = &[
     ("A20", Stage, b"<a b={c}/>", "ok 7"),
     ("A22", Stage, b"<a>{!a?b:c}</a>", "ok 7"),
     ("A22", Stage, b"<a>{!a()}</a>", "ok 7"),
-    ("A23", Stage, b"<a/>/*", "no 5 4 4 0 0"),
-    ("A23", Run, b"</*", "no 5 1 1 0 0"),
+    ("A23", Stage, b"<a/>/*", "no 17 4 4 0 0"),
+    ("A23", Run, b"</*", "no 17 1 1 0 0"),
     ("A23", Stage, b"<a/>//\xE2\x80\xA8\n<b/>", "no 3 6 6 0 0"),
     ("A24", Stage, b"<a/><", "no 12 4 5 0 0"),
     ("A24", Stage, b"<a/><<", "no 13 4 4 0 0"),
@@ -362,6 +363,40 @@ const SMALLER_READINGS: &[Row] = &[
 const REQUEST_5: &[Row] = &[
     ("5.1", Run, b"x<a/>", "ok 4"),
     ("5.2", Stage, b"<a>{((<b/>))}</a>", "ok 10"),
+];
+
+/// 3.1 to 3.12, where they name an input that is not above.
+#[rustfmt::skip]
+const REQUEST_3: &[Row] = &[
+    ("3.1", Stage, b"<a>{\"b\n\"}</a>", "no 3 4 6 0 0"),
+    ("3.1", Stage, b"<a>{'\n", "no 3 4 5 0 0"),
+    ("3.2", Stage, b"<a>{\"b\r\n\"}</a>", "no 3 4 6 0 0"),
+    ("3.3", Stage, b"<a>{\"b\\\"}</a>", "no 3 6 6 0 0"),
+    ("3.4", Stage, b"<a>{\"b\\\n", "no 3 6 6 0 0"),
+    ("3.4", Stage, b"<a>{\"b\n\\", "no 3 4 6 0 0"),
+    ("3.4", Stage, b"<a>{\"b", "no 18 4 4 0 0"),
+    ("3.5", Stage, b"<a>{\"\xE2\x80\xA8\"}</a>", "ok 7"),
+    ("3.5", Stage, b"<a>{\"\xE2\x80\xA8", "no 18 4 4 0 0"),
+    ("3.5", Stage, b"<a>{\"\xE2\x80\xA9\n", "no 3 4 8 0 0"),
+    ("3.6", Stage, b"<a b={\"x", "no 18 6 6 0 0"),
+    ("3.6", Stage, b"<a {...\"x", "no 18 7 7 0 0"),
+    ("3.6", Stage, b"<a>{...'x", "no 18 7 7 0 0"),
+    ("3.6", Stage, b"<a>{f(\"x", "no 18 6 6 0 0"),
+    ("3.6", Run, b"{\"x", "no 18 1 1 0 0"),
+    ("3.7", Stage, b"<a>{<b c=\"x", "no 5 9 9 0 0"),
+    ("3.7", Stage, b"<a>{<b c={'x", "no 18 10 10 0 0"),
+    ("3.7", Stage, b"<a b='x\n", "no 5 5 5 0 0"),
+    ("3.8", Stage, b"/*", "no 17 0 0 0 0"),
+    ("3.8", Stage, b"<a>{b/*", "no 17 5 5 0 0"),
+    ("3.9", Stage, b"<a //x", "no 4 6 6 0 0"),
+    ("3.10", Stage, b"<a>/*", "no 4 5 5 0 0"),
+    ("3.10", Stage, b"<a>/*{\"", "no 18 6 6 0 0"),
+    ("3.11", Stage, b"<a>{b \"x\n", "no 3 6 6 0 0"),
+    ("3.11", Stage, b"\"", "no 3 0 0 0 0"),
+    ("3.11", Stage, b"<a/>\"", "no 13 4 4 0 0"),
+    ("3.12", Stage, b"<a>{'/*", "no 18 4 4 0 0"),
+    ("3.12", Stage, b"<a>{/*'", "no 17 4 4 0 0"),
+    ("3.12", Stage, b"<a>{\"'", "no 18 4 4 0 0"),
 ];
 
 /// The 38 reserved words of ECMA-262.
@@ -427,14 +462,15 @@ fn deep() -> Vec<Named> {
         of_text("A3", elements(64, "<"), "no 4 193 193 0 0"),
         of_text("A3", elements(64, "< "), "no 4 194 194 0 0"),
         of_text("A3", elements(64, "<!"), "no 3 193 193 0 0"),
-        of_text("A3", elements(64, "</*"), "no 5 193 193 0 0"),
+        of_text("A3", elements(64, "</*"), "no 17 193 193 0 0"),
         of_text("A20", elements(64, "{"), "no 14 192 192 0 0"),
         of_text("A20", elements(64, "{}"), "no 14 192 192 0 0"),
         of_text("A20", elements(64, "{/*"), "no 14 192 192 0 0"),
         of_text("A20", elements(63, "<a b={/*"), "no 14 194 194 0 0"),
+        of_text("3.13", elements(64, "{\""), "no 14 192 192 0 0"),
         of_text("A20", parens(62, "(/*"), "no 14 66 66 0 0"),
         of_text("A20", parens(62, "b(/*"), "no 14 67 67 0 0"),
-        of_text("A20", parens(62, "b/*"), "no 5 67 67 0 0"),
+        of_text("A20", parens(62, "b/*"), "no 17 67 67 0 0"),
         of_text("A20", ended(63, "{}"), "ok 317"),
         of_text("A20", elements(63, "<a b={"), "no 14 194 194 0 0"),
         of_text("A20", elements(63, "<a b={}/>"), "no 14 194 194 0 0"),

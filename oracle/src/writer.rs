@@ -21,6 +21,22 @@ const BAD_PRIMARIES: [&str; 20] = [
 ];
 const IN_STRINGS: [&str; 9] = ["", "x", "a b", "é", "\u{2028}", "//", "<>{}", "/*", "😀"];
 const IN_ATTRIBUTES: [&str; 6] = ["\\", "x\ny", "\r\n", "&amp;", "a/>", "\t\u{2029}"];
+/// What may stand behind `/*` and leave it open.
+const IN_OPEN_COMMENTS: [&str; 10] = [
+    "",
+    " ",
+    "/",
+    "*",
+    "* /",
+    "'",
+    "\" }</a>",
+    "//\n",
+    "\r\\",
+    "/*\u{2028}",
+];
+/// What may stand at the end of a string that stays open, whichever its quote.
+const AFTER_OPEN_STRINGS: [&str; 6] = ["", " ", "/* */", "}</a>", "//", "\u{2029}"];
+const LINE_ENDS: [&str; 3] = ["\n", "\r", "\r\n"];
 const TEXTS: [&str; 12] = [
     "hi",
     " ",
@@ -220,11 +236,8 @@ impl Writer {
     fn bad_primary(&mut self) {
         self.blanks();
         self.raw(" ");
-        if self.random.once_in(3) {
-            let beginning = self.random.one_of(&["'", "\"x", "'\"é"]);
-            self.raw(beginning);
-            let bad = self.random.one_of(&["\\", "\n", "\r"]);
-            self.bad_bytes(bad);
+        if self.random.once_in(2) {
+            self.bad_string();
         } else {
             let bad = self.random.one_of(&BAD_PRIMARIES);
             self.bad_bytes(bad);
@@ -232,13 +245,36 @@ impl Writer {
         self.raw(" ");
     }
 
+    /// A backslash is refused at its own place, a line end from the quote to it.
+    fn bad_string(&mut self) {
+        let beginning = self
+            .random
+            .one_of(&["'", "\"x", "'\"é", "\"\u{2028}", "'/*"]);
+        let quote = self.raw(beginning);
+        if self.random.once_in(3) {
+            self.bad_bytes("\\");
+        } else {
+            let bad = self.random.one_of(&LINE_ENDS);
+            let line_end = self.raw(bad);
+            self.refusal(3, (quote, line_end), (0, 0));
+        }
+    }
+
+    /// A comment that stays open, where blanks may stand; right behind a `/` it would be another one.
     fn fault_of_a_comment(&mut self) {
         let after_a_slash = self.bytes.last() == Some(&b'/');
-        if !after_a_slash && self.due(5) {
-            self.refusal(5, (self.end(), self.end()), (0, 0));
-            self.raw("/* ");
-            self.cut = Some(self.end());
+        if !after_a_slash && self.due(17) {
+            let start = self.raw("/*");
+            self.never_closed(17, start, &IN_OPEN_COMMENTS);
         }
+    }
+
+    /// What began at `start` stays open to the end of input, some more bytes away.
+    fn never_closed(&mut self, number: u32, start: usize, more: &[&str]) {
+        self.refusal(number, (start, start), (0, 0));
+        let more = self.random.one_of(more);
+        self.raw(more);
+        self.cut = Some(self.end());
     }
 
     /// An element or fragment that isn't a child, from after its `<` on.
@@ -489,16 +525,12 @@ impl Writer {
         };
         let start = self.token(quote);
         self.raw(inside);
-        self.fault_of_a_string(start);
+        if self.due(5) {
+            let more = [&AFTER_OPEN_STRINGS[..], &LINE_ENDS[..], &["\\"]].concat();
+            self.never_closed(5, start, &more);
+        }
         self.raw(quote);
         Node::leaf(kind::QUOTED_STRING, start, self.end())
-    }
-
-    fn fault_of_a_string(&mut self, start: usize) {
-        if self.due(5) {
-            self.refusal(5, (start, start), (0, 0));
-            self.cut = Some(self.end());
-        }
     }
 
     fn attribute_container(&mut self, depth: usize) -> Node {
@@ -715,7 +747,9 @@ impl Writer {
         let inside = self.random.one_of(&IN_STRINGS);
         let start = self.token(quote);
         self.raw(inside);
-        self.fault_of_a_string(start);
+        if self.due(18) {
+            self.never_closed(18, start, &AFTER_OPEN_STRINGS);
+        }
         self.raw(quote);
         (start, self.end(), false)
     }

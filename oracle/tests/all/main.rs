@@ -3,5 +3,6 @@
 mod depths;
 mod limits;
 mod named;
+mod never_closed;
 mod program;
 mod tables;

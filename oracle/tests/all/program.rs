@@ -138,3 +138,26 @@ fn random_items_are_the_same_for_the_same_seed() {
         "{accepted} of 200 are accepted"
     );
 }
+
+/// Each of 5, 17, 18, and a 3 that shows a piece ended by LF or by CR, at least once in 200 items.
+#[test]
+fn random_items_leave_things_open_and_break_strings() {
+    let items = 10_000;
+    let mut met = std::collections::BTreeMap::new();
+    for (reading, bytes) in (0..items).map(oracle::corpus::random) {
+        let answer = oracle::read(&bytes, reading, oracle::Limits::default());
+        let oracle::Answer::Refused { number, places } = answer else {
+            continue;
+        };
+        let [start, end, ..] = places;
+        match number {
+            5 | 17 | 18 => *met.entry((number, None)).or_insert(0) += 1,
+            3 if start < end => *met.entry((number, Some(bytes[end]))).or_insert(0) += 1,
+            _ => {}
+        }
+    }
+    let kinds: Vec<_> = met.keys().copied().collect();
+    let (lf, cr) = (Some(b'\n'), Some(b'\r'));
+    assert_eq!(kinds, [(3, lf), (3, cr), (5, None), (17, None), (18, None)]);
+    assert!(met.values().all(|&count| count * 200 > items), "{met:?}");
+}
