@@ -91,12 +91,13 @@ enum lorikvar_refusal {
     LORIKVAR_REFUSAL_TOO_LONG = 1,
     /* Not well-formed UTF-8: the offset where no good sequence begins. */
     LORIKVAR_REFUSAL_NOT_UTF8 = 2,
-    /* No allowed token begins here, or a bad word, number or string: its start; inside a string, the bad byte. */
+    /* No allowed token begins here, or a bad word, number or string: its start; inside a string, the bad byte; of a
+     * string in braces that LF or CR breaks, the piece: the offset of its quote, and that of the LF or CR. */
     LORIKVAR_REFUSAL_UNEXPECTED = 3,
     /* The input ends where something is still needed: its length. */
     LORIKVAR_REFUSAL_END_OF_INPUT = 4,
-    /* A quoted string or a comment is never closed: its first byte. */
-    LORIKVAR_REFUSAL_NEVER_CLOSED = 5,
+    /* A quoted attribute string is never closed: its quote. */
+    LORIKVAR_REFUSAL_QUOTED_NEVER_CLOSED = 5,
     /* A > or } in the text of a child: its offset. */
     LORIKVAR_REFUSAL_STRAY_IN_TEXT = 6,
     /* The closing name differs: the opening name; the closing name. */
@@ -118,7 +119,11 @@ enum lorikvar_refusal {
     /* Accepted, but more records than the table holds: values[0] is the count that is needed. From reads only. */
     LORIKVAR_REFUSAL_TABLE_TOO_SMALL = 15,
     /* A comma after the expression of {expression}: that byte, p and p + 1. */
-    LORIKVAR_REFUSAL_COMMA_IN_BRACES = 16
+    LORIKVAR_REFUSAL_COMMA_IN_BRACES = 16,
+    /* A comment that begins with slash and star is never closed: its first byte. */
+    LORIKVAR_REFUSAL_COMMENT_NEVER_CLOSED = 17,
+    /* A string in braces is never closed: its quote. */
+    LORIKVAR_REFUSAL_STRING_NEVER_CLOSED = 18
 };
 
 /*

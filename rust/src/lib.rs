@@ -26,7 +26,7 @@
 //! # Answers
 //!
 //! An answer is a `Result`: a count or a [`Table`] where the input is accepted, else a [`Refusal`], which has
-//! each of the 16 refusals by name, with its places. `Result` is that enum already: it must be looked at, `?`
+//! each of the 18 refusals by name, with its places. `Result` is that enum already: it must be looked at, `?`
 //! hands a refusal up, and nothing of a table can be reached through a refusal.
 //!
 //! # Memory and threads

@@ -18,11 +18,12 @@ pub fn check_stage(input: &[u8]) -> Result<usize, Refusal> {
 /// Checks a run (zero or more children up to the end of input) and counts its records.
 ///
 /// ```
-/// use lorikvar::{check_run, Refusal};
+/// use lorikvar::{check_run, Refusal, Span};
 ///
 /// assert_eq!(check_run(b""), Ok(0));
 /// assert_eq!(check_run(b"hi <b/>"), Ok(4));
-/// assert_eq!(check_run(b"</b>"), Err(Refusal::Unexpected { at: 0 }));
+/// let place = Span { start: 0, end: 0 };
+/// assert_eq!(check_run(b"</b>"), Err(Refusal::Unexpected { place }));
 /// ```
 pub fn check_run(input: &[u8]) -> Result<usize, Refusal> {
     count(ffi::check_run(input))

@@ -4,8 +4,9 @@ use std::fmt;
 
 /// Why an input is refused, and where. A call knows no other refusal, so a `match` on this is whole.
 ///
-/// `at` is the offset of a byte. The words of each variant are document 01's; [`Refusal::number`] and
-/// [`Refusal::places`] give the number and the two places as the document counts them.
+/// `at` is the offset of a byte. The words of each variant are document 01's, but for what is never closed, which
+/// request 3 of document 02 tells apart; [`Refusal::number`] and [`Refusal::places`] give the number and the two
+/// places as the documents count them.
 ///
 /// ```
 /// use lorikvar::{check_stage, Refusal, Span};
@@ -14,6 +15,9 @@ use std::fmt;
 /// let (opening, closing) = (Span { start: 1, end: 2 }, Span { start: 5, end: 6 });
 /// assert_eq!(refusal, Refusal::NamesDiffer { opening, closing });
 /// assert_eq!(refusal.to_string(), "refusal 7: closing name differs: opening name 1, 2; closing name 5, 6");
+///
+/// let refusal = check_stage(b"<v>{'hi}</v>").unwrap_err();
+/// assert_eq!(refusal.to_string(), "refusal 18: string in braces never closed: at 4");
 /// ```
 #[derive(Clone, Copy, Debug, PartialEq, Eq, Hash)]
 pub enum Refusal {
@@ -26,17 +30,18 @@ pub enum Refusal {
     },
     /// 3: no allowed token begins here, or a bad word, number or string.
     Unexpected {
-        /// Its start; inside a string, the bad byte.
-        at: usize,
+        /// Its start, as both ends; inside a string, the bad byte, as both ends; of a string in braces that LF or CR
+        /// breaks, the piece from its quote up to the line end.
+        place: Span,
     },
     /// 4: input ends where something is still needed.
     EndOfInput {
         /// The length of the input.
         at: usize,
     },
-    /// 5: quoted string or `/*` never closed.
-    NeverClosed {
-        /// Its first byte.
+    /// 5: quoted attribute string never closed.
+    QuotedNeverClosed {
+        /// Its quote.
         at: usize,
     },
     /// 6: `>` or `}` in child text.
@@ -100,10 +105,20 @@ pub enum Refusal {
         /// That byte.
         comma: Span,
     },
+    /// 17: `/*` comment never closed.
+    CommentNeverClosed {
+        /// Its first byte.
+        at: usize,
+    },
+    /// 18: string in braces never closed.
+    StringNeverClosed {
+        /// Its quote.
+        at: usize,
+    },
 }
 
 impl Refusal {
-    /// The refusal that a call says; `None` for number 0. No call says a number above 16 (proved, `NumbersTo16`).
+    /// The refusal that a call says; `None` for number 0. No call says a number above 18 (proved, `NumbersTo18`).
     pub(crate) fn of(said: Said) -> Option<Refusal> {
         let [start, end, start2, end2] = said.values;
         let (at, span, closing) = (
@@ -117,9 +132,9 @@ impl Refusal {
         Some(match said.number {
             1 => Refusal::TooLong,
             2 => Refusal::NotUtf8 { at },
-            3 => Refusal::Unexpected { at },
+            3 => Refusal::Unexpected { place: span },
             4 => Refusal::EndOfInput { at },
-            5 => Refusal::NeverClosed { at },
+            5 => Refusal::QuotedNeverClosed { at },
             6 => Refusal::StrayInText { at },
             7 => Refusal::NamesDiffer {
                 opening: span,
@@ -140,18 +155,20 @@ impl Refusal {
             14 => Refusal::TooDeep { at },
             15 => Refusal::TableTooSmall { needed: start },
             16 => Refusal::CommaInBraces { comma: span },
+            17 => Refusal::CommentNeverClosed { at },
+            18 => Refusal::StringNeverClosed { at },
             _ => return None,
         })
     }
 
-    /// The number, 1 to 16.
+    /// The number, 1 to 18.
     pub fn number(&self) -> u32 {
         match self {
             Refusal::TooLong => 1,
             Refusal::NotUtf8 { .. } => 2,
             Refusal::Unexpected { .. } => 3,
             Refusal::EndOfInput { .. } => 4,
-            Refusal::NeverClosed { .. } => 5,
+            Refusal::QuotedNeverClosed { .. } => 5,
             Refusal::StrayInText { .. } => 6,
             Refusal::NamesDiffer { .. } => 7,
             Refusal::FragmentClosedByName { .. } => 8,
@@ -163,6 +180,8 @@ impl Refusal {
             Refusal::TooDeep { .. } => 14,
             Refusal::TableTooSmall { .. } => 15,
             Refusal::CommaInBraces { .. } => 16,
+            Refusal::CommentNeverClosed { .. } => 17,
+            Refusal::StringNeverClosed { .. } => 18,
         }
     }
 
@@ -172,16 +191,18 @@ impl Refusal {
         match *self {
             Refusal::TooLong => [none, none],
             Refusal::NotUtf8 { at }
-            | Refusal::Unexpected { at }
             | Refusal::EndOfInput { at }
-            | Refusal::NeverClosed { at }
+            | Refusal::QuotedNeverClosed { at }
             | Refusal::StrayInText { at }
             | Refusal::AfterStage { at }
-            | Refusal::TooDeep { at } => [Span { start: at, end: at }, none],
+            | Refusal::TooDeep { at }
+            | Refusal::CommentNeverClosed { at }
+            | Refusal::StringNeverClosed { at } => [Span { start: at, end: at }, none],
             Refusal::NamesDiffer { opening, closing }
             | Refusal::FragmentClosedByName { opening, closing }
             | Refusal::ElementClosedByFragment { opening, closing } => [opening, closing],
-            Refusal::DashAfterDot { part: span }
+            Refusal::Unexpected { place: span }
+            | Refusal::DashAfterDot { part: span }
             | Refusal::EmptyValue { braces: span }
             | Refusal::Adjacent { less: span }
             | Refusal::CommaInBraces { comma: span } => [span, none],
@@ -195,7 +216,7 @@ impl Refusal {
         }
     }
 
-    /// Document 01's words for when it is given.
+    /// Document 01's words for when it is given; of 5, 17 and 18, what is never closed.
     pub fn words(&self) -> &'static str {
         match self {
             Refusal::TooLong => "too long",
@@ -204,7 +225,7 @@ impl Refusal {
                 "no allowed token begins here, or a bad word, number or string"
             }
             Refusal::EndOfInput { .. } => "input ends where something is still needed",
-            Refusal::NeverClosed { .. } => "quoted string or `/*` never closed",
+            Refusal::QuotedNeverClosed { .. } => "quoted attribute string never closed",
             Refusal::StrayInText { .. } => "`>` or `}` in child text",
             Refusal::NamesDiffer { .. } => "closing name differs",
             Refusal::FragmentClosedByName { .. } => "fragment closed by a name",
@@ -219,6 +240,8 @@ impl Refusal {
             Refusal::TooDeep { .. } => "depth",
             Refusal::TableTooSmall { .. } => "accepted, but more records than the table holds",
             Refusal::CommaInBraces { .. } => "comma after the expression of `{expression}`",
+            Refusal::CommentNeverClosed { .. } => "`/*` comment never closed",
+            Refusal::StringNeverClosed { .. } => "string in braces never closed",
         }
     }
 }
@@ -237,18 +260,23 @@ impl fmt::Display for Refusal {
             Refusal::ElementClosedByFragment { opening, closing } => {
                 write!(f, ": opening name {opening}; closing fragment {closing}")
             }
-            Refusal::DashAfterDot { part: span }
+            Refusal::Unexpected { place } if place.start == place.end => {
+                write!(f, ": at {}", place.start)
+            }
+            Refusal::Unexpected { place: span }
+            | Refusal::DashAfterDot { part: span }
             | Refusal::EmptyValue { braces: span }
             | Refusal::Adjacent { less: span }
             | Refusal::CommaInBraces { comma: span } => write!(f, ": at {span}"),
             Refusal::TableTooSmall { needed } => write!(f, ": {needed} needed"),
             Refusal::NotUtf8 { at }
-            | Refusal::Unexpected { at }
             | Refusal::EndOfInput { at }
-            | Refusal::NeverClosed { at }
+            | Refusal::QuotedNeverClosed { at }
             | Refusal::StrayInText { at }
             | Refusal::AfterStage { at }
-            | Refusal::TooDeep { at } => write!(f, ": at {at}"),
+            | Refusal::TooDeep { at }
+            | Refusal::CommentNeverClosed { at }
+            | Refusal::StringNeverClosed { at } => write!(f, ": at {at}"),
         }
     }
 }
@@ -259,6 +287,9 @@ impl std::error::Error for Refusal {}
 mod tests {
     use super::Refusal;
     use crate::ffi::Said;
+    use crate::Span;
+
+    const LAST: u32 = 18;
 
     fn said(number: u32) -> Said {
         Said {
@@ -269,25 +300,26 @@ mod tests {
 
     #[test]
     fn numbers_lead_back() {
-        for number in 1..=16 {
+        for number in 1..=LAST {
             assert_eq!(
                 Refusal::of(said(number)).map(|refusal| refusal.number()),
                 Some(number)
             );
         }
         assert_eq!(Refusal::of(said(0)), None);
-        assert_eq!(Refusal::of(said(17)), None);
+        assert_eq!(Refusal::of(said(LAST + 1)), None);
     }
 
     fn all() -> Vec<Refusal> {
-        (1..=16)
+        (1..=LAST)
             .filter_map(|number| Refusal::of(said(number)))
             .collect()
     }
 
-    /// The definition quotes document 01's words above each number, in order.
+    /// The definition quotes document 01's words above each number, in order, and document 02's above what is never
+    /// closed.
     #[test]
-    fn words_are_document_01_s() {
+    fn words_are_document_01_s_but_for_what_is_never_closed() {
         let page = concat!(
             env!("CARGO_MANIFEST_DIR"),
             "/../crates/jsx/specs/Refusal.antt"
@@ -296,9 +328,35 @@ mod tests {
         let quotes = text
             .lines()
             .filter_map(|line| line.strip_prefix("-- D: \"")?.split('"').next());
-        let words: Vec<&str> = all().iter().map(|refusal| refusal.words()).collect();
+        let (never_closed, others): (Vec<Refusal>, Vec<Refusal>) =
+            all().into_iter().partition(|refusal| {
+                matches!(
+                    refusal,
+                    Refusal::QuotedNeverClosed { .. }
+                        | Refusal::CommentNeverClosed { .. }
+                        | Refusal::StringNeverClosed { .. }
+                )
+            });
+        let words: Vec<&str> = others.iter().map(|refusal| refusal.words()).collect();
         assert_eq!(words, quotes.collect::<Vec<_>>());
-        assert_eq!(words.len(), 16);
+        assert_eq!(words.len(), 15);
+        let of_document_02 = text.lines().filter(|line| line.starts_with("-- D2: \""));
+        assert_eq!(of_document_02.count(), never_closed.len());
+        assert!(never_closed
+            .iter()
+            .all(|refusal| refusal.words().ends_with(" never closed")));
+    }
+
+    /// A string in braces that a line end breaks is the only 3 whose place has two ends.
+    #[test]
+    fn display_of_3_shows_a_piece_where_it_is_one() {
+        let shown = |start, end| {
+            let place = Span { start, end };
+            let text = Refusal::Unexpected { place }.to_string();
+            text.rsplit(": ").next().unwrap().to_string()
+        };
+        assert_eq!(shown(4, 6), "at 4, 6");
+        assert_eq!(shown(6, 6), "at 6");
     }
 
     #[test]
@@ -314,7 +372,7 @@ mod tests {
                 7 => ": opening name 10, 11; closing name 12, 13",
                 8 => ": opening fragment 10, 11; closing name 12, 13",
                 9 => ": opening name 10, 11; closing fragment 12, 13",
-                10 | 11 | 12 | 16 => ": at 10, 11",
+                3 | 10 | 11 | 12 | 16 => ": at 10, 11",
                 15 => ": 10 needed",
                 _ => ": at 10",
             };
@@ -329,7 +387,7 @@ mod tests {
             let expected = match refusal.number() {
                 1 => [0, 0, 0, 0],
                 7..=9 => [10, 11, 12, 13],
-                10 | 11 | 12 | 16 => [10, 11, 0, 0],
+                3 | 10 | 11 | 12 | 16 => [10, 11, 0, 0],
                 15 => [10, 0, 0, 0],
                 _ => [10, 10, 0, 0],
             };

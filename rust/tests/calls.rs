@@ -103,11 +103,39 @@ fn other_refusals() {
         Refusal::CommaInBraces { comma: span(5, 6) },
     );
     refused_as_stage(b"<a>\xE2\x28</a>", Refusal::NotUtf8 { at: 3 });
-    refused_as_stage(b"<a b='x/>", Refusal::NeverClosed { at: 5 });
-    refused_as_stage(b"x", Refusal::Unexpected { at: 0 });
-    refused_as_run(b"a</b>", Refusal::Unexpected { at: 1 });
+    refused_as_stage(b"x", unexpected(0, 0));
+    refused_as_run(b"a</b>", unexpected(1, 1));
     refused_as_run(b"hi>", Refusal::StrayInText { at: 2 });
     refused_as_run(b"{a", Refusal::EndOfInput { at: 2 });
+}
+
+fn unexpected(start: usize, end: usize) -> Refusal {
+    Refusal::Unexpected {
+        place: span(start, end),
+    }
+}
+
+/// Request 3 of document 02: a quoted attribute string, a comment, a string in braces.
+#[test]
+fn what_is_never_closed_is_told_apart() {
+    refused_as_stage(b"<a b='x/>", Refusal::QuotedNeverClosed { at: 5 });
+    refused_as_stage(b"<a b='x\n", Refusal::QuotedNeverClosed { at: 5 });
+    refused_as_stage(b"<a>{<b c=\"x", Refusal::QuotedNeverClosed { at: 9 });
+    refused_as_stage(b"<a /*", Refusal::CommentNeverClosed { at: 3 });
+    refused_as_stage(b"<a>{/*'", Refusal::CommentNeverClosed { at: 4 });
+    refused_as_run(b"</*", Refusal::CommentNeverClosed { at: 1 });
+    refused_as_stage(b"<a>{\"b", Refusal::StringNeverClosed { at: 4 });
+    refused_as_stage(b"<a>{'/*", Refusal::StringNeverClosed { at: 4 });
+    refused_as_run(b"{\"x", Refusal::StringNeverClosed { at: 1 });
+}
+
+/// Request 3 of document 02: the piece of a broken string; a backslash alone is at its own place.
+#[test]
+fn a_broken_string_shows_its_piece() {
+    refused_as_stage(b"<a>{\"b\n\"}</a>", unexpected(4, 6));
+    refused_as_stage(b"<a>{\"b\r\n\"}</a>", unexpected(4, 6));
+    refused_as_run(b"{'\n", unexpected(1, 2));
+    refused_as_stage(b"<a>{\"b\\\n", unexpected(6, 6));
 }
 
 #[test]

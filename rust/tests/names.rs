@@ -83,7 +83,7 @@ fn of_refusals() -> Names {
 #[test]
 fn refusals_have_the_definition_s_names() {
     let defined = of_definition("crates/jsx/specs/Refusal.antt");
-    assert_eq!(defined.len(), 16);
+    assert_eq!(defined.len(), 18);
     assert_eq!(of_header("LORIKVAR_REFUSAL_"), defined);
     assert_eq!(of_refusals(), defined);
 }

@@ -34,8 +34,21 @@ static const struct refused cases[] = {
     {'s', "x", LORIKVAR_REFUSAL_UNEXPECTED, {0, 0, 0, 0}},
     {'s', "<a>{if}</a>", LORIKVAR_REFUSAL_UNEXPECTED, {4, 4, 0, 0}},
     {'s', "<a>{'b\\'}</a>", LORIKVAR_REFUSAL_UNEXPECTED, {6, 6, 0, 0}},
-    {'s', "<a b=\"x/>", LORIKVAR_REFUSAL_NEVER_CLOSED, {5, 5, 0, 0}},
-    {'s', "<a /*", LORIKVAR_REFUSAL_NEVER_CLOSED, {3, 3, 0, 0}},
+    /* What is never closed: a quoted attribute string, in braces or not; a comment; a string in braces. */
+    {'s', "<a b=\"x/>", LORIKVAR_REFUSAL_QUOTED_NEVER_CLOSED, {5, 5, 0, 0}},
+    {'s', "<a b='x\n", LORIKVAR_REFUSAL_QUOTED_NEVER_CLOSED, {5, 5, 0, 0}},
+    {'s', "<a>{<b c=\"x", LORIKVAR_REFUSAL_QUOTED_NEVER_CLOSED, {9, 9, 0, 0}},
+    {'s', "<a /*", LORIKVAR_REFUSAL_COMMENT_NEVER_CLOSED, {3, 3, 0, 0}},
+    {'s', "<a>{/*'", LORIKVAR_REFUSAL_COMMENT_NEVER_CLOSED, {4, 4, 0, 0}},
+    {'r', "</*", LORIKVAR_REFUSAL_COMMENT_NEVER_CLOSED, {1, 1, 0, 0}},
+    {'s', "<a>{\"b", LORIKVAR_REFUSAL_STRING_NEVER_CLOSED, {4, 4, 0, 0}},
+    {'s', "<a>{'/*", LORIKVAR_REFUSAL_STRING_NEVER_CLOSED, {4, 4, 0, 0}},
+    {'r', "{\"x", LORIKVAR_REFUSAL_STRING_NEVER_CLOSED, {1, 1, 0, 0}},
+    /* A string in braces that LF or CR breaks: from its quote to the line end. */
+    {'s', "<a>{\"b\n\"}</a>", LORIKVAR_REFUSAL_UNEXPECTED, {4, 6, 0, 0}},
+    {'s', "<a>{\"b\r\n\"}</a>", LORIKVAR_REFUSAL_UNEXPECTED, {4, 6, 0, 0}},
+    {'r', "{'\n", LORIKVAR_REFUSAL_UNEXPECTED, {1, 2, 0, 0}},
+    {'s', "<a>{\"b\\\n", LORIKVAR_REFUSAL_UNEXPECTED, {6, 6, 0, 0}},
     /* Runs. */
     {'r', "</>", LORIKVAR_REFUSAL_UNEXPECTED, {0, 0, 0, 0}},
     {'r', "a< /b>", LORIKVAR_REFUSAL_UNEXPECTED, {1, 1, 0, 0}},

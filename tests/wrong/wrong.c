@@ -33,23 +33,27 @@ static uint32_t said(uint32_t number, size_t *values)
         return 13;
     if (WRONG == 5 && number == 16) /* the end of a byte's place not written */
         values[1] = values[0];
+    if (WRONG == 6 && (number == 17 || number == 18)) /* an open comment and an open string exchanged */
+        return 17 + 18 - number;
+    if (WRONG == 7 && number == 3) /* the end of a broken string's piece lost */
+        values[1] = values[0];
     return number;
 }
 
 uint32_t lorikvar_check_stage(const uint8_t *input, size_t length, size_t values[LORIKVAR_VALUES])
 {
-    if (WRONG == 6) /* a run's check for a stage's */
+    if (WRONG == 8) /* a run's check for a stage's */
         return right_check_run(input, length, values);
-    if (WRONG == 7) /* a byte behind the input is looked at */
+    if (WRONG == 9) /* a byte behind the input is looked at */
         look(input, length);
-    if (WRONG == 8 && length == LORIKVAR_MOST_BYTES) /* the longest input is too long */
+    if (WRONG == 10 && length == LORIKVAR_MOST_BYTES) /* the longest input is too long */
         return right_check_stage(input, length + 1, values);
     return said(right_check_stage(input, length, values), values);
 }
 
 uint32_t lorikvar_check_run(const uint8_t *input, size_t length, size_t values[LORIKVAR_VALUES])
 {
-    if (WRONG == 9 && length == 0) /* the empty run is refused */
+    if (WRONG == 11 && length == 0) /* the empty run is refused */
         return right_check_stage(input, length, values);
     return said(right_check_run(input, length, values), values);
 }
@@ -64,17 +68,17 @@ static uint32_t *word(uint32_t *table, size_t record, enum lorikvar_word place)
 static uint32_t wrote(uint32_t number, uint32_t *table, size_t words, const size_t *values)
 {
     size_t k;
-    if (WRONG == 10 && number != 0 && words > 0) /* a refusal writes a word */
+    if (WRONG == 12 && number != 0 && words > 0) /* a refusal writes a word */
         table[0] = 1;
-    if (WRONG == 11 && number == 0 && words > LORIKVAR_ROW_WORDS * values[0]) /* a word beyond the last record */
+    if (WRONG == 13 && number == 0 && words > LORIKVAR_ROW_WORDS * values[0]) /* a word beyond the last record */
         *word(table, values[0], LORIKVAR_WORD_KIND) = 0;
-    if (WRONG == 12 && number == 0 && values[0] > 2) /* the last record's parent is wrong */
+    if (WRONG == 14 && number == 0 && values[0] > 2) /* the last record's parent is wrong */
         *word(table, values[0] - 1, LORIKVAR_WORD_PARENT) = 0;
-    if (WRONG == 13 && number == 0 && values[0] > 0) /* a missing parent is 0 */
+    if (WRONG == 15 && number == 0 && values[0] > 0) /* a missing parent is 0 */
         *word(table, 0, LORIKVAR_WORD_PARENT) = 0;
-    for (k = 0; WRONG == 14 && number == 0 && k < values[0]; k++) /* a record is its own ancestor */
+    for (k = 0; WRONG == 16 && number == 0 && k < values[0]; k++) /* a record is its own ancestor */
         ++*word(table, k, LORIKVAR_WORD_DEPTH);
-    if (WRONG == 15 && number == 0 && values[0] > 2) /* the last record's depth is that of an outermost one */
+    if (WRONG == 17 && number == 0 && values[0] > 2) /* the last record's depth is that of an outermost one */
         *word(table, values[0] - 1, LORIKVAR_WORD_DEPTH) = 0;
     return number;
 }
@@ -82,9 +86,9 @@ static uint32_t wrote(uint32_t number, uint32_t *table, size_t words, const size
 uint32_t lorikvar_read_stage(const uint8_t *input, size_t length, uint32_t *table, size_t words,
                              size_t values[LORIKVAR_VALUES])
 {
-    if (WRONG == 16) /* records rounded up */
+    if (WRONG == 18) /* records rounded up */
         words = (words + LORIKVAR_ROW_WORDS - 1) / LORIKVAR_ROW_WORDS * LORIKVAR_ROW_WORDS;
-    if (WRONG == 17) /* the table is looked at before its length is */
+    if (WRONG == 19) /* the table is looked at before its length is */
         look((const uint8_t *)table, 0);
     return wrote(said(right_read_stage(input, length, table, words, values), values), table, words, values);
 }
@@ -92,16 +96,16 @@ uint32_t lorikvar_read_stage(const uint8_t *input, size_t length, uint32_t *tabl
 uint32_t lorikvar_read_run(const uint8_t *input, size_t length, uint32_t *table, size_t words,
                            size_t values[LORIKVAR_VALUES])
 {
-    volatile uint8_t more[WRONG == 18 ? 40000 : 1]; /* more stack than is said */
+    volatile uint8_t more[WRONG == 20 ? 40000 : 1]; /* more stack than is said */
     more[0] = 0;
     return wrote(said(right_read_run(input, length, table, words, values), values), table, words, values) + more[0];
 }
 
 bool lorikvar_span_bytes(const uint8_t *input, size_t length, size_t start, size_t end, size_t part[LORIKVAR_PART])
 {
-    if (WRONG == 19) /* an end one past the input is in range */
+    if (WRONG == 21) /* an end one past the input is in range */
         return right_span_bytes(input, length + 1, start, end, part);
-    if (WRONG == 20 && start > end) /* nothing is said of a span that ends before it starts */
+    if (WRONG == 22 && start > end) /* nothing is said of a span that ends before it starts */
         return false;
     return right_span_bytes(input, length, start, end, part);
 }
@@ -109,11 +113,11 @@ bool lorikvar_span_bytes(const uint8_t *input, size_t length, size_t start, size
 bool lorikvar_record_bytes(const uint8_t *input, size_t length, const uint32_t *table, size_t words, size_t count,
                            size_t number, size_t part[LORIKVAR_PART])
 {
-    if (WRONG == 21) /* the count is passed over */
+    if (WRONG == 23) /* the count is passed over */
         count = SIZE_MAX;
-    if (WRONG == 22) /* a record's span is not held against the input */
+    if (WRONG == 24) /* a record's span is not held against the input */
         length = SIZE_MAX;
-    if (WRONG == 23) /* the record before */
+    if (WRONG == 25) /* the record before */
         number = number > 0 ? number - 1 : 0;
     return right_record_bytes(input, length, table, words, count, number, part);
 }
