@@ -113,7 +113,7 @@ static int block_comment(R *r) {
             r->at = p + 2;
             return 1;
         }
-    return no_at(r, 5, r->at);
+    return no_at(r, 17, r->at);
 }
 
 static int line_comment(R *r) {
@@ -323,9 +323,10 @@ static int string(R *r, int quote) {
     size_t a = r->at++;
     for (;; r->at++) {
         int b = here(r);
-        if (b == END) return no_at(r, 5, a);
+        if (b == END) return no_at(r, 18, a);
         if (b == quote) break;
-        if (b == '\\' || b == '\n' || b == '\r') return no_at(r, 3, r->at);
+        if (b == '\\') return no_at(r, 3, r->at);
+        if (b == '\n' || b == '\r') return no(r, 3, a, r->at, 0, 0);
     }
     r->at++;
     return 1;
