@@ -10,6 +10,11 @@ const PACKET_SIZES: [usize; 4] = [64, 256, 536, MOST_LOST];
 const MOST_LOST: usize = 1_400;
 /// Bytes that mean something in a stage: put in place of another, they do more than any byte would.
 const MARKS: &[u8] = b"<>/{}=\"'.:-,()[]!?&|+* \n\\a1";
+/// Where a string or a comment ends, or may begin: strings in braces are rare in stages, so braces are among them.
+const ENDS_AND_BRACES: &[u8] = b"\"'*{";
+/// What breaks a string in braces, and what opens a string or a comment.
+const LINE_ENDS: [&[u8]; 3] = [b"\n", b"\r", b"\r\n"];
+const OPENERS: [&[u8]; 3] = [b"\"", b"'", b"/*"];
 
 #[derive(Clone, Copy, PartialEq, Eq, Debug)]
 pub enum Damage {
@@ -21,11 +26,12 @@ pub enum Damage {
     Truncated,
     Spliced,
     SplicedWithin,
+    LeftOpen,
     Composed,
 }
 
-/// How often each is drawn: in so many of 20 items.
-const SHARES: [(Damage, usize); 9] = [
+/// How often each is drawn: in so many of 22 items.
+const SHARES: [(Damage, usize); 10] = [
     (Damage::None, 1),
     (Damage::PacketLost, 3),
     (Damage::BytesLost, 3),
@@ -34,11 +40,12 @@ const SHARES: [(Damage, usize); 9] = [
     (Damage::Truncated, 2),
     (Damage::Spliced, 2),
     (Damage::SplicedWithin, 1),
+    (Damage::LeftOpen, 2),
     (Damage::Composed, 2),
 ];
 
 /// What a composed damage is made of.
-const SINGLE: [Damage; 7] = [
+const SINGLE: [Damage; 8] = [
     Damage::PacketLost,
     Damage::BytesLost,
     Damage::BitsFlipped,
@@ -46,6 +53,7 @@ const SINGLE: [Damage; 7] = [
     Damage::Truncated,
     Damage::Spliced,
     Damage::SplicedWithin,
+    Damage::LeftOpen,
 ];
 
 impl Damage {
@@ -59,6 +67,7 @@ impl Damage {
             Damage::Truncated => "truncated",
             Damage::Spliced => "spliced",
             Damage::SplicedWithin => "spliced-within",
+            Damage::LeftOpen => "left-open",
             Damage::Composed => "composed",
         }
     }
@@ -119,6 +128,7 @@ fn damaged(bytes: &[u8], damage: Damage, stages: &Stages, random: &mut Random) -
             spliced(bytes, other, random)
         }
         Damage::SplicedWithin => spliced(bytes, bytes, random),
+        Damage::LeftOpen => left_open(bytes, random),
         Damage::Composed => composed(bytes, stages, random),
     }
 }
@@ -173,6 +183,29 @@ fn spliced(front: &[u8], back: &[u8], random: &mut Random) -> Vec<u8> {
     let end = random.within(0, front.len());
     let start = random.within(0, back.len());
     [&front[..end], &back[start..]].concat()
+}
+
+/// A quote, the star of a comment or an opening brace is lost, or an opener, a line end or the end of input comes right behind it.
+/// Half of what is left open ends with its line: a string in braces would be broken there.
+fn left_open(bytes: &[u8], random: &mut Random) -> Vec<u8> {
+    let is_place = |at: &usize| ENDS_AND_BRACES.contains(&bytes[*at]);
+    let places: Vec<usize> = (0..bytes.len()).filter(is_place).collect();
+    if places.is_empty() {
+        return bytes.to_vec();
+    }
+    let at = *random.one_of(&places);
+    let (front, back) = bytes.split_at(at + 1);
+    let line = back.split(|byte| matches!(byte, b'\n' | b'\r')).next();
+    let rest = match random.once_in(2) {
+        true => line.unwrap_or_default(),
+        false => back,
+    };
+    match random.below(4) {
+        0 => [&bytes[..at], rest].concat(),
+        1 => [front, *random.one_of(&OPENERS), rest].concat(),
+        2 => [front, *random.one_of(&LINE_ENDS), back].concat(),
+        _ => front.to_vec(),
+    }
 }
 
 /// Two or three damages, one after the other.
@@ -264,6 +297,31 @@ mod tests {
             assert_eq!(flipped.len(), bytes.len());
             assert!((0..=4).contains(&ones));
         }
+    }
+
+    #[test]
+    fn something_is_left_open_or_broken() {
+        let text = b"<a>{'b'/**/}\n</a>";
+        let made: Vec<Vec<u8>> = (0..500)
+            .map(|number| left_open(text, &mut Random::of_item(SEED, number)))
+            .collect();
+        let wanted: [&[u8]; 7] = [
+            b"<a>{b'/**/}\n</a>",
+            b"<a>{'b/**/}",
+            b"<a>{'b'/*",
+            b"<a>{'\rb'/**/}\n</a>",
+            b"<a>{'b'/*\n*/}\n</a>",
+            b"<a>{/*'b'/**/}\n</a>",
+            b"<a>{'b'\"/**/}",
+        ];
+        for wanted in wanted {
+            assert!(
+                made.iter().any(|bytes| bytes == wanted),
+                "{}",
+                wanted.escape_ascii()
+            );
+        }
+        assert_eq!(left_open(b"<a/>", &mut Random::of_item(SEED, 0)), b"<a/>");
     }
 
     #[test]

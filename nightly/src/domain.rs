@@ -1,4 +1,4 @@
-//! Document 01's paragraph 'Domain': where the port's answer must be another reader's too. `D:` quotes it.
+//! Document 01's paragraph 'Domain': where the port's answer must be another reader's too. `D:` quotes it, `D2:` document 02.
 
 use crate::answer::{Answer, Refusal};
 use crate::item::{Item, Reading};
@@ -8,16 +8,16 @@ use crate::item::{Item, Reading};
 ///
 /// D: "What the port accepts, the Rust accepts with the same spans". "What the port refuses by 2, 4 to 12 or 16, the Rust
 /// refuses too, where it can be given the bytes at all": a parser that cannot be given them answers `skip`. "Refusals 1,
-/// 14, 15, and 3 and 13 otherwise, are port limits."
+/// 14, 15, and 3 and 13 otherwise, are port limits." D2: "17 and 18 stand where 5 stood and count with 4 to 12 in the domain."
 pub fn compared(item: &Item, port: &Answer) -> bool {
     let reached = |stop| Reach::of(item, stop);
     match port {
         Answer::Ok(_) => !reached(item.bytes.len()).odd_string,
         Answer::No(Refusal::Told(2, _)) => true,
         Answer::No(Refusal::Told(3, [place, ..])) => three_compared(item, *place as usize),
-        // A 5 is told at the first byte of what never closes: that byte was read.
+        // A 5 is told at the quote of the string that never closes: that string was read.
         Answer::No(Refusal::Told(5, [place, ..])) => !reached(*place as usize + 1).odd_string,
-        Answer::No(Refusal::Told(4..=12 | 16, places)) => {
+        Answer::No(Refusal::Told(4..=12 | 16 | 17 | 18, places)) => {
             let last = places.iter().max().map_or(0, |place| *place as usize);
             !reached(last).odd_string
         }

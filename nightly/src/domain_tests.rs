@@ -45,11 +45,12 @@ fn what_is_accepted() {
 }
 
 #[test]
-fn numbers_4_to_12_and_16() {
-    let cases: [Case; 13] = [
+fn numbers_4_to_12_and_16_to_18() {
+    let cases: [Case; 20] = [
         (STAGE, "", &[4, 0]),
         (RUN, "{a", &[4, 2]),
-        (STAGE, "<a /*", &[5, 3]),
+        (STAGE, "<a b='x", &[5, 5]),
+        (STAGE, "<a>{<b c=\"x", &[5, 9]),
         (STAGE, "<a>}</a>", &[6, 3]),
         (STAGE, "<v></w>", &[7, 1, 2, 5, 6]),
         (STAGE, "<></a>", &[8, 0, 2, 4, 5]),
@@ -60,6 +61,12 @@ fn numbers_4_to_12_and_16() {
         (STAGE, "<x>{a, b}</x>", &[16, 5, 6]),
         (STAGE, "<a>{<b/><", &[12, 8, 9]),
         (STAGE, "<a>{<b>}</b>", &[6, 7]),
+        (STAGE, "/*", &[17, 0]),
+        (STAGE, "<a /*", &[17, 3]),
+        (STAGE, "<a b=/*'\n", &[17, 5]),
+        (RUN, "</*", &[17, 1]),
+        (STAGE, "<a>{'x", &[18, 4]),
+        (RUN, "{f(\"<a b= '", &[18, 3]),
     ];
     all_compared(true, &cases);
 }
@@ -100,12 +107,14 @@ fn three_outside_braces() {
 
 #[test]
 fn three_inside_braces() {
-    let cases: [Case; 6] = [
+    let cases: [Case; 8] = [
         (STAGE, "<a>{if", &[3, 4]),
         (STAGE, "<a {}/>", &[3, 4]),
         (STAGE, "<a>{<b !", &[3, 7]),
         (RUN, "{<b>{c}</b !", &[3, 11]),
         (STAGE, "<a>{\"b\\", &[3, 6]),
+        (STAGE, "<a>{\"b\n\"}</a>", &[3, 4, 6]),
+        (STAGE, "<a b={'\r", &[3, 6, 7]),
         (STAGE, "<a b={<c d={e} !", &[3, 15]),
     ];
     all_compared(false, &cases);
@@ -167,13 +176,15 @@ fn the_outermost_closing_tag_of_a_run() {
 
 #[test]
 fn blanks_before_a_string_with_a_backslash_or_a_line_end() {
-    let cases: [Case; 7] = [
+    let cases: [Case; 9] = [
         (STAGE, "<a b= \"\\\"/>", &[]),
         (STAGE, "<a b=\n'x\ny'/>", &[]),
         (STAGE, "<a b=/**/\"\r\"/>", &[]),
         (STAGE, "<a b=//\n'\\'/>", &[]),
         (STAGE, "<a b= \"\\\"></b>", &[7, 1, 2, 12, 13]),
         (STAGE, "<a b= \"\\", &[5, 6]),
+        (STAGE, "<a b= \"\\\"/*", &[17, 9]),
+        (STAGE, "<a b= \"\\\">{'c", &[18, 11]),
         (RUN, "<a b=<c d= \"\\\"/>", &[4, 16]),
     ];
     all_compared(false, &cases);
