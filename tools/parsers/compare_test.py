@@ -47,7 +47,10 @@ class Difference(unittest.TestCase):
         self.assertEqual(self.differs(STAGE, {"no": 'Expected ">" but found "if"'}), ("accepts", 'refuses: Expected ">" but found ..'))
         self.assertEqual(self.differs(["no 6 3 3 0 0"], {"rows": ROWS}), ("refuses by 6", "accepts"))
         self.assertEqual(self.differs(["no 3 2 2 0 0"], {"rows": None}), ('refuses by 3 at "/"', "accepts"))
+        self.assertEqual(self.differs(["no 17 2 2 0 0"], {"rows": None}), ("refuses by 17", "accepts"))
+        self.assertEqual(self.differs(["no 18 2 2 0 0"], {"rows": None}), ("refuses by 18", "accepts"))
         self.assertIsNone(self.differs(["no 6 3 3 0 0"], {"no": "Unexpected token"}))
+        self.assertIsNone(self.differs(["no 18 2 2 0 0"], {"no": "Unterminated string constant"}))
 
     def test_the_checker_stands_with_its_parser(self):
         answers = compare.with_checker({"typescript": {"rows": None}, "checker": {"no": "TS17001: twice"}})
