@@ -1,6 +1,7 @@
-/* A plain C reader of document 01, with requests 5 and 3 of document 02, byte by byte: the yardstick. It keeps the port's
-   contract and nothing of its code. A check is the UTF-8 test and one pass; a read is a check, then the same pass with a table. No trick that a first version in C would
-   not have: keep it so. A function gives 1 where it could go on, 0 where the reader holds a refusal. */
+/* A plain C reader of document 01, with requests 5 and 3 of document 02, byte by byte: the yardstick. It keeps the
+   port's contract and nothing of its code. A check is the UTF-8 test and one pass; a read is a check, then the same pass
+   with a table. No trick that a first version in C would not have: keep it so. A function gives 1 where it could go on, 0
+   where the reader holds a refusal. */
 #include "plain.h"
 #include <string.h>
 

@@ -185,8 +185,8 @@ fn spliced(front: &[u8], back: &[u8], random: &mut Random) -> Vec<u8> {
     [&front[..end], &back[start..]].concat()
 }
 
-/// A quote, the star of a comment or an opening brace is lost, or an opener, a line end or the end of input comes right behind it.
-/// Half of what is left open ends with its line: a string in braces would be broken there.
+/// A quote, the star of a comment or an opening brace is lost, or an opener, a line end or the end of input comes right
+/// behind it. Half of what is left open ends with its line: a string in braces would be broken there.
 fn left_open(bytes: &[u8], random: &mut Random) -> Vec<u8> {
     let is_place = |at: &usize| ENDS_AND_BRACES.contains(&bytes[*at]);
     let places: Vec<usize> = (0..bytes.len()).filter(is_place).collect();

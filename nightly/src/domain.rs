@@ -1,4 +1,5 @@
-//! Document 01's paragraph 'Domain': where the port's answer must be another reader's too. `D:` quotes it, `D2:` document 02.
+//! Document 01's paragraph 'Domain': where the port's answer must be another reader's too. `D:` quotes it, `D2:` document
+//! 02.
 
 use crate::answer::{Answer, Refusal};
 use crate::item::{Item, Reading};
@@ -8,7 +9,8 @@ use crate::item::{Item, Reading};
 ///
 /// D: "What the port accepts, the Rust accepts with the same spans". "What the port refuses by 2, 4 to 12 or 16, the Rust
 /// refuses too, where it can be given the bytes at all": a parser that cannot be given them answers `skip`. "Refusals 1,
-/// 14, 15, and 3 and 13 otherwise, are port limits." D2: "17 and 18 stand where 5 stood and count with 4 to 12 in the domain."
+/// 14, 15, and 3 and 13 otherwise, are port limits."
+/// D2: "17 and 18 stand where 5 stood and count with 4 to 12 in the domain."
 pub fn compared(item: &Item, port: &Answer) -> bool {
     let reached = |stop| Reach::of(item, stop);
     match port {

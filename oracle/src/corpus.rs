@@ -63,8 +63,8 @@ pub fn corpus() -> Vec<Case> {
     cases
 }
 
-/// One input by its seed: valid, with a planted fault, some bytes, the same behind a beginning or behind one that leaves
-/// something open, a deep one's end, or valid and then damaged.
+/// One input by its seed: valid, with a planted fault, some bytes, the same behind a beginning or behind one that
+/// leaves something open, a deep one's end, or valid and then damaged.
 pub fn random(seed: u64) -> (Reading, Vec<u8>) {
     let mut random = Random::seeded(seed);
     let reading = if random.once_in(2) { Stage } else { Run };

@@ -288,9 +288,9 @@ impl Cursor<'_> {
         (end > whole + 1).then_some(end)
     }
 
-    /// D: "Strings: no backslash, LF or CR."; "inside a string, the offset of the bad byte". D2: "A string in braces broken by
-    /// LF or CR now shows the whole piece, from its quote to the line end, still as 3"; "18 an open string inside braces".
-    /// 3.4: the first bad byte counts; 18 only where the end is reached without one.
+    /// D: "Strings: no backslash, LF or CR."; "inside a string, the offset of the bad byte".
+    /// D2: "A string in braces broken by LF or CR now shows the whole piece, from its quote to the line end, still as 3";
+    /// "18 an open string inside braces". 3.4: the first bad byte counts; 18 only where the end is reached without one.
     fn string(&mut self) -> Result<(), Refusal> {
         let start = self.at;
         let quote = self.input[start];

@@ -1,4 +1,5 @@
-//! Request 3, by the first byte that matters behind a quote or `/*`: every short rest of bytes that close, break or open.
+//! Request 3, by the first byte that matters behind a quote or `/*`: every short rest of bytes that close, break or
+//! open.
 
 use oracle::Reading::{self, Run, Stage};
 use oracle::{read, Answer, Limits};
