@@ -18,7 +18,7 @@ unexpected = 3
 abbrev pub endOfInput : ℕ
 endOfInput = rules.endOfInput
 
--- D: "quoted string .. never closed"; D2: "it stays for a quoted attribute string"
+-- D2: "Split 5: it stays for a quoted attribute string", of D: "quoted string or `/*` never closed"
 abbrev pub quotedNeverClosed : ℕ
 quotedNeverClosed = 5
 
