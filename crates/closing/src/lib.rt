@@ -3,7 +3,6 @@
 ghost use mathlib.Core.Path.{_≡_};
 ghost use Prim.Native.Nat.{_+_, _-_, _<_, _≤_};
 ghost use lib.ListN.{length};
-ghost use Rattle.rules.specs.Parse.{byteAt};
 ghost use Rattle.jsx.specs.Closing.{noName};
 ghost use Rattle.lex.specs.Contract.{Leaf, nothing};
 ghost use Rattle.table.specs.Slot.{seat};
