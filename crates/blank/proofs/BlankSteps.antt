@@ -1,83 +1,152 @@
--- Blank bytes alone, and blanks and comments, step by step: what each need of their readers follows from.
-use mathlib.Core.Path.{_≡_, refl, sym, subst, _∙_}
-use mathlib.Core.Bool.{Bool, true, false}
+-- Blanks and comments, one by one: what each need of their readers follows from.
+use mathlib.Core.Path.{_≡_, refl, sym, ap, subst, _∙_}
+use mathlib.Core.Bool.{Bool, true, false, not}
 use mathlib.Core.List.{List}
-use Prim.Native.Nat.{ℕ, zero, suc, _+_, _-_, _≤_, _<_}
+use Prim.Native.Nat.{ℕ, suc, _+_, _-_, _*_, _^_, _≤_, _<_}
 use Prim.Native.Char.{code}
 use native.Mathlib.Omega.{arith}
-use native.Mathlib.Decide.{decLt}
-use lib.Dec.{lit<}
+use lib.Dec.{lit<, ltb}
 use lib.ListN.{length}
+use borrow.Author.Tests.{ltb-true, not-true, not-false}
 use Rattle.rules.specs.Forest.{nil, byte}
-use Rattle.rules.specs.Parse.{byteAt, readAt}
-use Rattle.jsx.specs.Blank.{blankByte, comment, lineComment, blank, blanks, pass}
-use Rattle.lex.specs.Contract.{nothing, Leaf}
+use Rattle.rules.specs.Parse.{pick, byteAt, codeAt, readAt}
+use Rattle.rules.proofs.Run.{never, both}
+use Rattle.jsx.specs.Byte.{is, _or_, _‥_}
+use Rattle.jsx.specs.Blank.{blankChar, comment, lineComment, blank, blanks, pass}
+use Rattle.lex.specs.Contract.{nothing, Leaf, Past}
 use Rattle.lex.specs.declared.Ans.{Ans}
 use Rattle.lex.specs.declared.Ans.the-variants.{Got, No}
 use Rattle.lex.proofs.Laws as Lex
 use Rattle.lex.proofs.Laws.{before-end}
 use Rattle.lex.proofs.Turns.{Turns, turns-begin, turns-more}
-use Rattle.blank.specs.Run.{BlankRun}
+use Rattle.character.specs.Width.{widthOf}
+use Rattle.character.proofs.CodeSteps.{code-alone}
+use Rattle.character.proofs.WidthSteps.{width-one}
+use Rattle.character.proofs.Read.{character-inside, character-wide}
+use Rattle.blank.specs.Here.{blankByte, blankWidth}
 use Rattle.blank.proofs.Laws
 
--- ---- blank bytes alone
+-- ---- a blank here
 
--- From `at` to p there are blank bytes alone.
-pub record AllBlank (s : List ℕ) (at p : ℕ) : Type 0 where
-  pub past : at ≤ p
-  pub inside : p ≤ length s
-  pub all : (i : ℕ) → at ≤ i → i < p → blankByte (byteAt s i) ≡ true
+module _ (s : List ℕ) (p : ℕ) where
+  -- A blank of n bytes.
+  record Blank (n : ℕ) : Type 0 where
+    coded : blankChar (codeAt s p) ≡ true
+    wide : n ≡ widthOf (byteAt s p)
+    some : 0 < n
+    inside : p + n ≤ length s
 
--- Before the first byte.
-pub bytes-begin : {s : List ℕ} {at : ℕ} → at ≤ length s → AllBlank s at at
-bytes-begin h = record { past = omega arith; inside = h; all = λ i k l. absurd (omega arith) }
+  blank-of : {n : ℕ} → blankChar (codeAt s p) ≡ true → n ≡ widthOf (byteAt s p) → Blank n
+  blank-of t e =
+      let k = Laws.blank-coded s p t in
+      let w = character-wide s p k in
+      let i = character-inside s p k in
+      record { coded = t; wide = e; some = omega arith; inside = omega arith }
 
-module _
-    {s : List ℕ} {at p : ℕ} (v : AllBlank s at p) {b : ℕ} (y : b ≡ byteAt s p) {t : Bool} (i : t ≡ blankByte b)
-  where
-    -- A blank byte.
-    pub byte-goes-on : t ≡ true → AllBlank s at (p + 1)
-    byte-goes-on x =
-        let h = Lex.tested blankByte y i x in
-        let o = Lex.test-inside blankByte Laws.not-blank-end s p h in
-        record { past = omega arith; inside = omega arith; all = λ j k l. go j k l h (decLt j p) }
-      where
-        go : (j : ℕ) → at ≤ j → j < p + 1 → blankByte (byteAt s p) ≡ true → Dec (j < p) → blankByte (byteAt s j) ≡ true
-        go j k l h (yes m) = v .all j k m
-        go j k l h (no m) = let e : p ≡ j = omega arith in subst (λ (n : ℕ). blankByte (byteAt s n) ≡ true) e h
+  -- Its width is not 0; where none stands, it is.
+  here : {n : ℕ} → n ≡ blankWidth s p → (n ≡ 0 → ⊥) → Blank n
+  unfolding blankWidth
+  here {n} e k = go (blankChar (codeAt s p)) refl
+    where
+      go : (t : Bool) → blankChar (codeAt s p) ≡ t → Blank n
+      go true x = blank-of x (e ∙ rw x)
+      go false x = absurd (k (e ∙ rw x))
 
-    -- Another byte.
-    pub bytes-end : t ≡ false → BlankRun p s at
-    bytes-end x = record { far = (v .past, v .inside); all = v .all; ends = Lex.tested blankByte y i x }
+  none : {n : ℕ} → n ≡ blankWidth s p → n ≡ 0 → blankChar (codeAt s p) ≡ false
+  unfolding blankWidth
+  none e k = go (blankChar (codeAt s p)) refl
+    where
+      go : (t : Bool) → blankChar (codeAt s p) ≡ t → blankChar (codeAt s p) ≡ false
+      go true x = let b = blank-of {n = widthOf (byteAt s p)} x refl in
+          let z : widthOf (byteAt s p) ≡ 0 = sym (e ∙ rw x) ∙ k in
+          absurd (omega arith)
+      go false x = x
 
--- ---- blanks and comments, one by one
+  -- A byte that is a blank by itself.
+  alone : {b : ℕ} → b ≡ byteAt s p → {t : Bool} → t ≡ blankByte b → t ≡ true → Blank 1
+  unfolding blankByte
+  alone {b} y i x =
+      let k = both (ltb b 0x80) (blankChar b) (sym i ∙ x) in
+      let l = ltb-true b 0x80 (k .0) in
+      blank-of (ap blankChar (sym (code-alone s p y l)) ∙ k .1) (width-one (omega arith) ∙ ap widthOf y)
+
+-- ---- one by one
 
 -- Before the first.
 pub blanks-begin : {s : List ℕ} {at : ℕ} → at ≤ length s → Turns s blank 0 at at
 blanks-begin {s} {at} h = turns-begin s blank 0 at h
 
-module _
-    {s : List ℕ} {at p : ℕ} (v : Turns s blank 0 at p) {b : ℕ} (y : b ≡ byteAt s p) {t : Bool} (i : t ≡ blankByte b)
-  where
-    -- A blank byte.
-    pub blank-goes-on : t ≡ true → Turns s blank 0 at (p + 1)
-    blank-goes-on x =
-        let h = Lex.tested blankByte y i x in
-        let o = Lex.test-inside blankByte Laws.not-blank-end s p h in
-        turns-more v (Laws.blank-step s (suc (length s)) 0 p h o) (omega arith) (omega arith)
+module _ {s : List ℕ} {at p : ℕ} (v : Turns s blank 0 at p) where
+  goes-on : {n : ℕ} → Blank s p n → Turns s blank 0 at (p + n)
+  goes-on {n} b =
+      let e = Laws.blank-step s (suc (length s)) 0 p (b .coded) in
+      let o = b .some in
+      let i = b .inside in
+      let w = b .wide in
+      rw (b .wide) (turns-more v e (omega arith) (omega arith))
 
-    module _ (x : t ≡ false) where
-      other : blankByte (byteAt s p) ≡ false
-      other = Lex.tested blankByte y i x
+  -- The rest was read by a call.
+  pub blanks-behind : {r : Ans} → Leaf nothing r s blanks p 0 → Leaf nothing r s blanks at 0
+  unfolding blanks
+  blanks-behind l = Lex.leaf-behind nothing blanks at 0 (v .acc) (λ a o. refl) l (v .so) (omega (arith, v .past))
 
-      -- Neither a blank byte nor a `/`.
-      pub blanks-stop : (b ≡ code "/" → ⊥) → Leaf nothing (Got p 0) s blanks at 0
-      blanks-stop z = Laws.blanks-end v (Laws.blank-other s (suc (length s)) 0 p other (Lex.byte-not y z))
+  module _ {b : ℕ} (y : b ≡ byteAt s p) where
+    -- A byte that is a blank by itself.
+    pub byte-goes-on : {t : Bool} → t ≡ blankByte b → not t ≡ false → Turns s blank 0 at (p + 1)
+    byte-goes-on {t} i x = goes-on (alone s p y i (not-false t x))
 
-      module _ (z : b ≡ code "/") {c : ℕ} (y₂ : c ≡ byteAt s (p + 1)) where
-        module _ (w : c ≡ code "*") {r : Ans} (l : Leaf nothing r s comment p 4) where
+    module _ (x : b ≡ code "/" → ⊥) where
+      -- A character of ASCII behind the space, and no `/`.
+      pub token-stops : {t : Bool} → t ≡ (0x21 ‥ 0x7F) b → t ≡ true → Leaf nothing (Got p 0) s blanks at 0
+      token-stops i z =
+          let o = Laws.token-other s p (Lex.tested (0x21 ‥ 0x7F) y i z) in
+          Laws.blanks-end v (Laws.blank-other s (suc (length s)) 0 p o (Lex.byte-not y x))
+
+      module _ {n : ℕ} (i : n ≡ blankWidth s p) where
+        -- No blank.
+        pub blanks-stop : n ≡ 0 → Leaf nothing (Got p 0) s blanks at 0
+        blanks-stop z = Laws.blanks-end v (Laws.blank-other s (suc (length s)) 0 p (none s p i z) (Lex.byte-not y x))
+
+        -- A blank.
+        pub blank-goes-on : (n ≡ 0 → ⊥) → Turns s blank 0 at (p + n)
+        blank-goes-on z = goes-on (here s p i z)
+
+    module _ (x : b ≡ code "/") {c : ℕ} (y₂ : c ≡ byteAt s (p + 1)) where
+      slash : is "/" (byteAt s p) ≡ true
+      slash = Lex.byte-is y x
+
+      other : blankChar (codeAt s p) ≡ false
+      other = Laws.token-other s p (rw (sym y ∙ x))
+
+      alone-stops : is "*" (byteAt s (p + 1)) ≡ false → is "/" (byteAt s (p + 1)) ≡ false
+          → Leaf nothing (Got p 0) s blanks at 0
+      alone-stops z w = Laws.blanks-end v (Laws.blank-slash s (suc (length s)) 0 p other slash z w)
+
+      -- A `/` alone, by one test of what stands behind it.
+      pub slash-stops : {t : Bool} → t ≡ (is "*" or is "/") c → t ≡ false → Leaf nothing (Got p 0) s blanks at 0
+      slash-stops i z = let k = neither (is "*" c) (is "/" c) (sym i ∙ z) in
+          alone-stops (ap (is "*") (sym y₂) ∙ k .0) (ap (is "/") (sym y₂) ∙ k .1)
+        where
+          neither : (f g : Bool) → pick f true g ≡ false → (f ≡ false) × (g ≡ false)
+          neither true g h = never (sym h)
+          neither false g h = (refl, h)
+
+      -- A line comment.
+      pub line-goes-on : c ≡ code "/" → {q : ℕ} → Past q s lineComment p 2 → Turns s blank 0 at q
+      line-goes-on w l =
+          let f = l .far in
+          let z : is "*" (byteAt s (p + 1)) ≡ false = rw (sym y₂ ∙ w) in
+          turns-more v (Laws.blank-line s (suc (length s)) 0 p other slash z (Lex.byte-is y₂ w) ∙ l .is) (omega arith)
+          (f .1)
+
+      module _ (w : c ≡ code "/" → ⊥) where
+        -- A `/` alone.
+        pub slash-ends : (c ≡ code "*" → ⊥) → Leaf nothing (Got p 0) s blanks at 0
+        slash-ends k = alone-stops (Lex.byte-not y₂ k) (Lex.byte-not y₂ w)
+
+        module _ (k : c ≡ code "*") {r : Ans} (l : Leaf nothing r s comment p 4) where
           begins : readAt s blank p ≡ readAt s comment p
-          begins = Laws.blank-comment s (suc (length s)) 0 p other (Lex.byte-is y z) (Lex.byte-is y₂ w)
+          begins = Laws.blank-comment s (suc (length s)) 0 p other slash (Lex.byte-is y₂ k)
 
           -- A comment that is refused.
           pub comment-stops : {n a e f d : ℕ} → r ≡ No n a e f d → Leaf nothing r s blanks at 0
@@ -89,67 +158,6 @@ module _
               let f = l .far _ _ h in
               turns-more v (begins ∙ Lex.leaf-got Laws.goes-comment l h) (omega arith) (f .1)
 
-        module _ (w : c ≡ code "*" → ⊥) where
-          -- A `/` alone.
-          pub slash-stops : (c ≡ code "/" → ⊥) → Leaf nothing (Got p 0) s blanks at 0
-          slash-stops k =
-              Laws.blanks-end v
-              (Laws.blank-slash s (suc (length s)) 0 p other (Lex.byte-is y z) (Lex.byte-not y₂ w) (Lex.byte-not y₂ k))
-
-          module _ (k : c ≡ code "/") {r : Ans} (l : Leaf nothing r s lineComment p 2) where
-            opened : readAt s blank p ≡ readAt s lineComment p
-            opened =
-                Laws.blank-line s (suc (length s)) 0 p other (Lex.byte-is y z) (Lex.byte-not y₂ w) (Lex.byte-is y₂ k)
-
-            -- A line comment that is refused.
-            pub line-stops : {n a e f d : ℕ} → r ≡ No n a e f d → Leaf nothing r s blanks at 0
-            line-stops h = Laws.blanks-no v (opened ∙ Lex.leaf-no l h) h
-
-            -- A line comment that ends.
-            pub line-goes-on : {q j : ℕ} → r ≡ Got q j → Turns s blank 0 at q
-            line-goes-on h =
-                let f = l .far _ _ h in
-                turns-more v (opened ∙ Lex.leaf-got Laws.goes-line l h) (omega arith) (f .1)
-
--- ---- blank bytes first
-
--- Blank bytes are turns of the blanks.
-turns-each : (s : List ℕ) (at n : ℕ) → ((i : ℕ) → at ≤ i → i < at + n → blankByte (byteAt s i) ≡ true)
-    → at + n ≤ length s
-    → Turns s blank 0 at (at + n)
-turns-each s at zero h k = let e : at ≡ at + 0 = omega arith in rw (← e) (turns-begin s blank 0 at (omega arith))
-turns-each s at (suc n) h k =
-    let e : at + suc n ≡ at + n + 1 = omega arith in
-    let v = turns-each s at n (λ i a b. h i a (omega arith)) (omega arith) in
-    let o = h (at + n) (omega arith) (omega arith) in
-    rw e (turns-more v (Laws.blank-step s (suc (length s)) 0 (at + n) o (omega arith)) (omega arith) (omega arith))
-
-module _
-    {s : List ℕ} {at b : ℕ} (y : b ≡ byteAt s at) {t : Bool} (i : t ≡ blankByte b) (x : t ≡ true)
-    {q : ℕ} (l : BlankRun q s (at + 1))
-  where
-    turned : Turns s blank 0 at q
-    turned =
-        let e : at + (q - at) ≡ q = omega arith in
-        rw e at (turns-each s at (q - at) (λ j k m. go j k (omega arith) (decLt at j)) (omega arith))
-      where
-        go : (j : ℕ) → at ≤ j → j < q → Dec (at < j) → blankByte (byteAt s j) ≡ true
-        go j k m (yes n) = l .all j (omega arith) m
-        go j k m (no n) =
-            let e : at ≡ j = omega arith in
-            subst (λ (n : ℕ). blankByte (byteAt s n) ≡ true) e (Lex.tested blankByte y i x)
-
-    -- No comment begins behind them.
-    pub run-ends : {c : ℕ} → c ≡ byteAt s q → (c ≡ code "/" → ⊥) → Leaf nothing (Got q 0) s blanks at 0
-    run-ends z w = Laws.blanks-end turned (Laws.blank-other s (suc (length s)) 0 q (l .ends) (Lex.byte-not z w))
-
-    -- One may.
-    pub run-goes-on : {r : Ans} → Leaf nothing r s blanks q 0 → Leaf nothing r s blanks at 0
-    unfolding blanks
-    run-goes-on m =
-        let v = turned in
-        Lex.leaf-behind nothing blanks at 0 (v .acc) (λ a o. refl) m (v .so) (omega arith)
-
 -- ---- a byte and blanks
 
 -- Past a byte, and past the blanks behind it.
@@ -160,14 +168,27 @@ pass-is {s} {at} h l =
 
 -- ---- what is asked
 
-module _ (s : List ℕ) (p : ℕ) {b : ℕ} (y : b ≡ byteAt s p) {t : Bool} (i : t ≡ blankByte b) (x : t ≡ true) where
+module _ (s : List ℕ) (p : ℕ) {b : ℕ} (y : b ≡ byteAt s p) {t : Bool} (i : t ≡ blankByte b) (x : not t ≡ false) where
   -- A blank byte stands within the input.
-  pub blank-inside : p + 1 ≤ length s
-  blank-inside = let o = Lex.test-inside blankByte Laws.not-blank-end s p (Lex.tested blankByte y i x) in omega arith
+  pub byte-inside : p + 1 ≤ length s
+  byte-inside = alone s p y i (not-false t x) .inside
 
   -- Behind it is nearer to the end.
-  pub blank-nearer : length s - (p + 1) < length s - p
-  blank-nearer = let o = blank-inside in omega arith
+  pub byte-nearer : length s - (p + 1) < length s - p
+  byte-nearer = let o = byte-inside in omega arith
+
+module _ (s : List ℕ) (p : ℕ) {n : ℕ} (i : n ≡ blankWidth s p) (x : n ≡ 0 → ⊥) where
+  -- A blank stands within the input.
+  pub blank-inside : p + n ≤ length s
+  blank-inside = here s p i x .inside
+
+  -- The sum that passes it fits.
+  pub blank-fits : length s * 1 < 2 ^ 63 → p + n < 2 ^ 64
+  blank-fits l = let o = blank-inside in omega arith
+
+  -- Behind it is nearer to the end.
+  pub blank-nearer : length s - (p + n) < length s - p
+  blank-nearer = let h = here s p i x in let o = h .inside in let w = h .some in omega arith
 
 module _ (s : List ℕ) (p : ℕ) {c : ℕ} (y : c ≡ byteAt s (p + 1)) where
   -- `/*` stands within the input.
@@ -184,23 +205,20 @@ pub comment-nearer : {s : List ℕ} {p q j : ℕ} {r : Ans} → Leaf nothing r s
 comment-nearer l h = let f = l .far _ _ h in omega arith
 
 -- Behind a line comment is nearer to the end.
-pub line-nearer : {s : List ℕ} {p q j : ℕ} {r : Ans} → Leaf nothing r s lineComment p 2 → r ≡ Got q j
-    → length s - q < length s - p
-line-nearer l h = let f = l .far _ _ h in omega arith
+pub line-nearer : {s : List ℕ} {p q : ℕ} → Past q s lineComment p 2 → length s - q < length s - p
+line-nearer l = let f = l .far in omega arith
 
 pub ruleset blank-steps = (
-  bytes-begin,
-  byte-goes-on,
-  bytes-end,
   blanks-begin,
-  blank-goes-on,
+  blanks-behind,
+  byte-goes-on,
+  token-stops,
   blanks-stop,
+  blank-goes-on,
+  slash-stops,
+  line-goes-on,
+  slash-ends,
   comment-stops,
   comment-goes-on,
-  slash-stops,
-  line-stops,
-  line-goes-on,
-  run-ends,
-  run-goes-on,
   pass-is,
 )

@@ -9,13 +9,14 @@ use lib.Dec.{lit<}
 use lib.ListN.{length}
 use borrow.Author.Tests.{not-true, not-false}
 use Rattle.rules.specs.Parse.{byteAt, opens}
-use Rattle.jsx.specs.Refusal.{unexpected, commentNeverClosed}
-use Rattle.jsx.specs.Byte.{bytesOf, end, lineEnd, _or_}
+use Rattle.jsx.specs.Refusal.{commentNeverClosed}
+use Rattle.jsx.specs.Byte.{bytesOf}
 use Rattle.jsx.specs.Blank.{commentTurn, comment, lineTurn, lineComment}
-use Rattle.lex.specs.Contract.{nothing, Leaf}
+use Rattle.lex.specs.Contract.{nothing, Leaf, Past}
 use Rattle.lex.specs.declared.Ans.the-variants.{Got, No}
 use Rattle.lex.proofs.Laws as Lex
 use Rattle.lex.proofs.Turns.{Turns, turns-begin, turns-more, turns-end, turns-no}
+use Rattle.blank.specs.Here.{lineEnds}
 use Rattle.blank.proofs.Laws
 
 -- ---- `/* .. */`
@@ -71,38 +72,26 @@ line-begins {s} at h = turns-begin s lineTurn 0 (at + 2) h
 
 module _
     {s : List ℕ} (at : ℕ) (h : at + 2 ≤ length s) {p : ℕ} (v : Turns s lineTurn 0 (at + 2) p)
-    {b : ℕ} (y : b ≡ byteAt s p) {t : Bool} (i : t ≡ (end or lineEnd) b)
+    {t : Bool} (i : t ≡ lineEnds s p)
   where
     -- The line ends.
-    pub line-ends : not t ≡ false → Leaf nothing (Got p 0) s lineComment at 2
+    pub line-ends : not t ≡ false → Past p s lineComment at 2
     line-ends x =
-        let e = Laws.line-end s (suc (length s)) 0 p (Lex.tested (end or lineEnd) y i (not-false t x)) in
-        let q = v .past in
-        let o = v .inside in
-        Lex.leaf-done nothing s lineComment at 2 p 0 (Laws.line-got s at h (turns-end v e)) refl (omega arith)
+        let e = Laws.line-end s (suc (length s)) 0 p (sym i ∙ not-false t x) in
+        record { is = Lex.known _ (Laws.line-got s at h (turns-end v e)); far = (v .past, v .inside) }
 
-    module _ (x : not t ≡ true) {u : Bool} (j : u ≡ Laws.separator s p) where
-      other : (end or lineEnd) (byteAt s p) ≡ false
-      other = Lex.tested (end or lineEnd) y i (not-true t x)
-
-      -- A separator.
-      pub line-stops : u ≡ true → Leaf nothing (No unexpected p p 0 0) s lineComment at 2
-      line-stops z =
-          Lex.leaf-stop nothing s lineComment at 2 refl
-          (Laws.line-no s at h (turns-no v (Laws.line-bad s (suc (length s)) 0 p other (sym j ∙ z))))
-
-      -- A byte of the comment.
-      pub line-goes-on : u ≡ false → Turns s lineTurn 0 (at + 2) (p + 1)
-      line-goes-on z =
-          let o = Laws.line-inside s p other (v .inside) in
-          turns-more v (Laws.line-step s (suc (length s)) 0 p other (sym j ∙ z) o) (omega arith) (omega arith)
+    -- A byte of the comment.
+    pub line-goes-on : not t ≡ true → Turns s lineTurn 0 (at + 2) (p + 1)
+    line-goes-on x =
+        let g = sym i ∙ not-true t x in
+        let o = Laws.line-inside s p g (v .inside) in
+        turns-more v (Laws.line-step s (suc (length s)) 0 p g o) (omega arith) (omega arith)
 
 -- A turn comes nearer to the end.
-pub line-turn-nearer : {s : List ℕ} {e at p b : ℕ} {t : Bool} → Turns s lineTurn e at p → b ≡ byteAt s p
-    → t ≡ (end or lineEnd) b → not t ≡ true
+pub line-turn-nearer : {s : List ℕ} {e at p : ℕ} {t : Bool} → Turns s lineTurn e at p → t ≡ lineEnds s p → not t ≡ true
     → length s - (p + 1) < length s - p
-line-turn-nearer {s} {p = p} {t = t} v y i x =
-    let o = Laws.line-inside s p (Lex.tested (end or lineEnd) y i (not-true t x)) (v .inside) in
+line-turn-nearer {s} {p = p} {t = t} v i x =
+    let o = Laws.line-inside s p (sym i ∙ not-true t x) (v .inside) in
     omega arith
 
 pub ruleset comment-steps = (
@@ -112,6 +101,5 @@ pub ruleset comment-steps = (
   comment-goes-on,
   line-begins,
   line-ends,
-  line-stops,
   line-goes-on,
 )

@@ -1,31 +1,32 @@
 -- Laws of blanks and comments, over plain variables.
-use mathlib.Core.Path.{_≡_, refl, sym, subst, _∙_}
-use mathlib.Core.Bool.{Bool, true, false}
+use mathlib.Core.Path.{_≡_, refl, sym, ap, _∙_}
+use mathlib.Core.Bool.{Bool, true, false, not}
 use mathlib.Core.List.{List, [], _∷_}
 use Prim.Native.Nat.{ℕ, suc, _+_, _≤_, _<_}
 use Prim.Native.Char.{code}
 use native.Mathlib.Omega.{arith}
 use lib.ListN.{length}
-use lib.Dec.{eqb}
-use borrow.Author.Tests.{eqb-true, lt-ltb}
+use lib.Dec.{leb, eqb}
+use borrow.Author.Tests.{eqb-true, lt-ltb, leb-true, not-true}
 use Rattle.rules.specs.Forest.{Forest, nil, byte, _⋈_}
 use Rattle.rules.specs.Rule.{Rule, step, seq, many}
-use Rattle.rules.specs.Parse.{got, trouble, pick, behind, byteAt, opens, parse, parsed, readAt}
+use Rattle.rules.specs.Parse.{got, trouble, pick, behind, byteAt, opens, noChar, codeAt, parse, parsed, readAt}
 use Rattle.rules.proofs.Run.{goes, never, both}
-use Rattle.jsx.specs.Refusal.{unexpected, commentNeverClosed}
-use Rattle.jsx.specs.Byte.{bytesOf, is, end, lineEnd, _or_}
-use Rattle.jsx.specs.Blank.{blankByte, commentTurn, comment, lineTurn, lineComment, blank, blanks, pass}
-use Rattle.lex.specs.Contract.{nothing, Leaf}
+use Rattle.jsx.specs.Refusal.{commentNeverClosed}
+use Rattle.jsx.specs.Byte.{bytesOf, is, end, _‥_, character}
+use Rattle.jsx.specs.Blank.{spaceSeparator, whiteSpace, lineTerminator, blankChar, commentTurn, comment, lineTurn}
+use Rattle.jsx.specs.Blank.{lineComment, blank, blanks, pass}
+use Rattle.lex.specs.Contract.{outOf, nothing, Leaf}
 use Rattle.lex.specs.declared.Ans.{Ans}
 use Rattle.lex.specs.declared.Ans.the-variants.{Got, No}
 use Rattle.lex.proofs.Laws as Lex
 use Rattle.lex.proofs.Laws.{before-end}
+use Rattle.lex.proofs.Ranges.{each, each-passes}
 use Rattle.lex.proofs.Turns.{Turns, turns-end, turns-no}
-
--- The end is no blank.
-pub not-blank-end : blankByte 256 ≡ false
-unfolding blankByte
-not-blank-end = refl
+use Rattle.character.specs.Width.{widthOf}
+use Rattle.character.proofs.CodeSteps.{code-alone}
+use Rattle.character.proofs.Read.{character-read}
+use Rattle.blank.specs.Here.{lineEnds}
 
 -- ---- comments
 
@@ -83,25 +84,16 @@ module _ (s : List ℕ) (at : ℕ) (i : at + 2 ≤ length s) where
       two-steps s (suc (length s)) at at (seq (many commentTurn) (seq step step)) i
       ∙ rw (e, lt-ltb p (length s) (omega arith), lt-ltb (p + 1) (length s) (omega arith), k)
 
-  -- `//` whose turns refuse.
-  pub line-no : {n a b c d : ℕ} → parsed s (many lineTurn) 0 (at + 2) ≡ trouble n a b c d
-      → readAt s lineComment at ≡ trouble n a b c d
-  unfolding lineComment
-  line-no e = two-steps s (suc (length s)) 0 at _ i ∙ rw e
-
   -- `//` whose turns end: so does it.
   pub line-got : {o : Forest} {p : ℕ} → parsed s (many lineTurn) 0 (at + 2) ≡ got true o p
       → readAt s lineComment at ≡ got true (byte (byteAt s at) nil ⋈ (byte (byteAt s (at + 1)) nil ⋈ o)) p
   unfolding lineComment
   line-got e = two-steps s (suc (length s)) 0 at _ i ∙ rw e
 
--- U+2028 or U+2029 stands here.
-abbrev pub separator : List ℕ → ℕ → Bool
-separator s p = pick (opens s (bytesOf "\u{2028}") p) true (opens s (bytesOf "\u{2029}") p)
-
--- A byte that ends no line stands within the input.
-pub line-inside : (s : List ℕ) (p : ℕ) → (end or lineEnd) (byteAt s p) ≡ false → p ≤ length s → p < length s
-line-inside s p t i = Lex.not-end s p (λ x. never (sym (subst (λ (b : ℕ). (end or lineEnd) b ≡ false) x t))) i
+-- What does not end the line stands within the input.
+pub line-inside : (s : List ℕ) (p : ℕ) → lineEnds s p ≡ false → p ≤ length s → p < length s
+unfolding lineEnds
+line-inside s p t i = Lex.not-end s p (λ x. never (sym (rw x at t))) i
 
 -- One answer for two tests.
 either : {A : Type 0} (a b : Bool) (x y : A) → pick a true b ≡ true → pick a x (pick b x y) ≡ x
@@ -116,24 +108,17 @@ neither false false x y h = refl
 
 module _ (s : List ℕ) (F e p : ℕ) where
   -- A turn of `//`: the line ends.
-  pub line-end : (end or lineEnd) (byteAt s p) ≡ true → parse s F lineTurn e p ≡ got false nil p
-  unfolding parse lineTurn
-  line-end t = rw t
+  pub line-end : lineEnds s p ≡ true → parse s F lineTurn e p ≡ got false nil p
+  unfolding parse lineTurn lineEnds
+  line-end t = either (end (byteAt s p)) (lineTerminator (codeAt s p)) _ _ t
 
-  module _ (t : (end or lineEnd) (byteAt s p) ≡ false) where
-    -- A turn of `//`: a separator.
-    pub line-bad : separator s p ≡ true → parse s F lineTurn e p ≡ trouble unexpected p p 0 0
-    unfolding parse lineTurn
-    line-bad u = rw t (either (opens s (bytesOf "\u{2028}") p) (opens s (bytesOf "\u{2029}") p) _ _ u)
-
-    -- A turn of `//`: another byte.
-    pub line-step : separator s p ≡ false → p < length s
-        → parse s F lineTurn e p ≡ got true (byte (byteAt s p) nil) (p + 1)
-    unfolding parse lineTurn
-    line-step u i =
-        rw t
-        (neither (opens s (bytesOf "\u{2028}") p) (opens s (bytesOf "\u{2029}") p) _ _ u
-        ∙ rw (lt-ltb p (length s) i))
+  -- A turn of `//`: another byte.
+  pub line-step : lineEnds s p ≡ false → p < length s
+      → parse s F lineTurn e p ≡ got true (byte (byteAt s p) nil) (p + 1)
+  unfolding parse lineTurn lineEnds
+  line-step t i =
+      neither (end (byteAt s p)) (lineTerminator (codeAt s p)) _ _ t
+      ∙ rw (lt-ltb p (length s) i)
 
 -- A comment goes on where it got something.
 pub goes-comment : goes comment ≡ true
@@ -155,15 +140,40 @@ module _ (s : List ℕ) (p : ℕ) where
   both-here : (a b : ℕ) → eqb (byteAt s p) a ≡ true → eqb (byteAt s (p + 1)) b ≡ true → opens s (a ∷ b ∷ []) p ≡ true
   both-here a b h k = Lex.opens-yes s (b ∷ []) p a h ∙ Lex.opens-one s (p + 1) b ∙ k
 
-module _ (s : List ℕ) (F e p : ℕ) where
-  -- A blank byte.
-  pub blank-step : blankByte (byteAt s p) ≡ true → p < length s
-      → parse s F blank e p ≡ got true (byte (byteAt s p) nil) (p + 1)
-  unfolding parse blank
-  blank-step t i = rw (t, lt-ltb p (length s) i)
+-- No blank has the code that no character has.
+not-blank : blankChar noChar ≡ false
+unfolding blankChar whiteSpace spaceSeparator lineTerminator
+not-blank = refl
 
-  module _ (t : blankByte (byteAt s p) ≡ false) where
-    -- Neither a blank byte nor a `/`.
+-- No blank is a character of ASCII behind the space.
+pub not-token : (b : ℕ) → (0x21 ‥ 0x7F) b ≡ true → blankChar b ≡ false
+unfolding each blankChar whiteSpace spaceSeparator lineTerminator
+not-token b h =
+    let k = both (leb 0x21 b) (leb b 0x7F) h in
+    let l = leb-true 0x21 b (k .0) in
+    let m = leb-true b 0x7F (k .1) in
+    not-true (blankChar b) (each-passes (λ c. not (blankChar c)) 0x21 0x5F refl b l (omega arith))
+
+module _ (s : List ℕ) (p : ℕ) where
+  -- A blank is a character.
+  pub blank-coded : blankChar (codeAt s p) ≡ true → codeAt s p ≡ noChar → ⊥
+  blank-coded t e = never (sym not-blank ∙ sym (ap blankChar e) ∙ t)
+
+  -- A character of ASCII behind the space is no blank.
+  pub token-other : (0x21 ‥ 0x7F) (byteAt s p) ≡ true → blankChar (codeAt s p) ≡ false
+  token-other h =
+      let m = leb-true (byteAt s p) 0x7F (both (leb 0x21 (byteAt s p)) (leb (byteAt s p) 0x7F) h .1) in
+      ap blankChar (sym (code-alone s p refl (omega arith))) ∙ not-token (byteAt s p) h
+
+module _ (s : List ℕ) (F e p : ℕ) where
+  -- A blank.
+  pub blank-step : blankChar (codeAt s p) ≡ true
+      → parse s F blank e p ≡ got true (outOf (parse s F character e p)) (p + widthOf (byteAt s p))
+  unfolding parse blank
+  blank-step t = rw t (character-read s F e p (blank-coded s p t))
+
+  module _ (t : blankChar (codeAt s p) ≡ false) where
+    -- Neither a blank nor a `/`.
     pub blank-other : is "/" (byteAt s p) ≡ false → parse s F blank e p ≡ got false nil p
     unfolding parse blank
     blank-other u = rw (t, Lex.opens-no s (bytesOf "*") p (code "/") u, Lex.opens-no s (bytesOf "/") p (code "/") u)

@@ -1,2 +1,2 @@
 -- What the contracts of this crate name besides the rules.
-pub mod Run
+pub mod Here

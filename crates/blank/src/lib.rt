@@ -1,13 +1,12 @@
-// Blanks and comments. Chapter 'Bytes, blanks, comments' of document 01.
+// Blanks and comments. Chapter 'Bytes, blanks, comments' of document 01, with request 1 of document 02.
 ghost use mathlib.Core.Path.{_≡_};
-ghost use mathlib.Core.Bool.{true};
 ghost use Prim.Native.Nat.{_+_, _<_, _≤_};
 ghost use lib.ListN.{length};
-ghost use Rattle.rules.specs.Parse.{pick, opens};
-ghost use Rattle.jsx.specs.Byte.{bytesOf, end, lineEnd, _or_};
-ghost use Rattle.jsx.specs.Blank.{blankByte, comment, lineComment, blanks, pass as passRule};
-ghost use Rattle.lex.specs.Contract.{Leaf, nothing};
-ghost use Rattle.blank.specs.Run.{BlankRun};
+ghost use Rattle.rules.specs.Parse.{codeAt};
+ghost use Rattle.jsx.specs.Byte.{is, _or_, _‥_};
+ghost use Rattle.jsx.specs.Blank.{blankChar, lineTerminator, comment, lineComment, blanks, pass as passRule};
+ghost use Rattle.lex.specs.Contract.{Leaf, Past, nothing};
+ghost use Rattle.blank.specs.Here.{blankByte, blankWidth, lineEnds};
 use lex::Ans;
 use lex::bytes::CR;
 use lex::bytes::END;
@@ -17,10 +16,12 @@ use lex::bytes::SPACE;
 use lex::bytes::STAR;
 use lex::bytes::TAB;
 use lex::refusal::COMMENT_NEVER_CLOSED;
-use lex::refusal::UNEXPECTED;
 
-// Tab, LF, VT, FF, CR (9 to 13) or space.
-pub fn is_blank(b: u32) -> bool
+// The first byte beyond ASCII.
+const WIDE: u32 = 0x80;
+
+// Tab, LF, VT, FF, CR (9 to 13) or space: a byte that is a blank by itself.
+fn is_blank(b: u32) -> bool
     ensures { λ r. ⌜ r ≡ blankByte b ⌝ }
 {
     match b {
@@ -29,14 +30,55 @@ pub fn is_blank(b: u32) -> bool
     }
 }
 
-// LF, CR or the end.
-fn ends_line(b: u32) -> bool
-    ensures { λ r. ⌜ r ≡ (end or lineEnd) b ⌝ }
+// A character that is a blank, by its code.
+fn is_blank_char(c: u32) -> bool
+    ensures { λ r. ⌜ r ≡ blankChar c ⌝ }
 {
-    match b {
-        LF | CR | END => true,
+    if c < WIDE {
+        return is_blank(c);
+    }
+    match c {
+        0xA0 | 0x1680 | 0x2000..=0x200A | 0x2028 | 0x2029 | 0x202F | 0x205F | 0x3000 | 0xFEFF => {
+            true
+        }
         _ => false,
     }
+}
+
+// LF, CR, U+2028 or U+2029.
+fn ends_line(c: u32) -> bool
+    ensures { λ r. ⌜ r ≡ lineTerminator c ⌝ }
+{
+    match c {
+        LF | CR | 0x2028 | 0x2029 => true,
+        _ => false,
+    }
+}
+
+// How many bytes the blank has that stands here; 0 where none does.
+fn blank_width(s: &[u8], at: usize) -> usize
+    requires { ⌜ at ≤ length (now s) ⌝ }
+    ensures { λ r. ⌜ r ≡ blankWidth (now (s .entry)) at ⌝ }
+{
+    if is_blank_char(character::code_at(s, at)) {
+        return character::width(lex::byte(s, at));
+    }
+    0
+}
+
+// Whether a `//` comment ends here: at a line terminator, or at the end.
+fn line_ends(s: &[u8], at: usize) -> bool
+    requires { ⌜ at ≤ length (now s) ⌝ }
+    ensures { λ r. ⌜ r ≡ lineEnds (now (s .entry)) at ⌝ }
+{
+    let b = lex::byte(s, at);
+    if b < WIDE {
+        return ends_line(b);
+    }
+    if b == END {
+        return true;
+    }
+    ends_line(character::code_at(s, at))
 }
 
 // Past the `/* .. */` that begins here; 17 at its first byte where it is never closed. The number is 0.
@@ -54,71 +96,42 @@ pub fn skip_comment(s: &[u8], at: usize) -> Ans
     Ans::No(COMMENT_NEVER_CLOSED, at, at, 0, 0)
 }
 
-// Whether U+2028 or U+2029 stands here: E2 80 A8 or E2 80 A9.
-fn separates(s: &[u8], at: usize) -> bool
-    requires { ⌜ at ≤ length (now s) ⌝ }
-    ensures { λ r. ⌜ r ≡ pick (opens (now (s .entry)) (bytesOf "\u{2028}") at) true
-        (opens (now (s .entry)) (bytesOf "\u{2029}") at) ⌝ }
-{
-    lex::three_at(s, at, 0xE2, 0x80, 0xA8) || lex::three_at(s, at, 0xE2, 0x80, 0xA9)
-}
-
-// Past the `//` that begins here, up to LF, CR or the end; 3 at a U+2028 or U+2029 in it. The number is 0.
-pub fn skip_line_comment(s: &[u8], at: usize) -> Ans
+// Past the `//` that begins here, up to what ends its line.
+pub fn skip_line_comment(s: &[u8], at: usize) -> usize
     requires { ⌜ at + 2 ≤ length (now s) ⌝ }
-    ensures { λ r. ⌜ Leaf nothing r (now (s .entry)) lineComment at 2 ⌝ }
+    ensures { λ r. ⌜ Past r (now (s .entry)) lineComment at 2 ⌝ }
 {
     let mut p = at + 2; // behind `//`
-    while !ends_line(lex::byte(s, p)) {
-        if separates(s, p) {
-            return Ans::No(UNEXPECTED, p, p, 0, 0);
-        }
-        p = p + 1;
-    }
-    Ans::Got(p, 0)
-}
-
-// Past the blank bytes from here on: where they end.
-pub fn past_blanks(s: &[u8], at: usize) -> usize
-    requires { ⌜ at ≤ length (now s) ⌝ }
-    ensures { λ r. ⌜ BlankRun r (now (s .entry)) at ⌝ }
-{
-    let mut p = at;
-    while is_blank(lex::byte(s, p)) {
+    while !line_ends(s, p) {
         p = p + 1;
     }
     p
 }
 
-// Past every blank and comment from here on, one by one; the number is 0.
-// It is called at two places, so that the compiler leaves it out of line.
+// Past every blank and comment from here on; the number is 0.
 fn skip_blanks_and_comments(s: &[u8], at: usize) -> Ans
     requires { ⌜ at ≤ length (now s) ⌝ }
     ensures { λ r. ⌜ Leaf nothing r (now (s .entry)) blanks at 0 ⌝ }
 {
     let mut p = at;
     loop {
-        let b = lex::byte(s, p);
-        if is_blank(b) {
-            p = p + 1;
+        if lex::byte(s, p) != SLASH {
+            let n = blank_width(s, p);
+            if n == 0 {
+                return Ans::Got(p, 0);
+            }
+            p = p + n;
             continue;
-        }
-        if b != SLASH {
-            return Ans::Got(p, 0);
         }
         let c = lex::byte(s, p + 1);
-        if c == STAR {
-            let r = skip_comment(s, p);
-            let Ans::Got(q, _) = r else {
-                return r;
-            };
-            p = q;
+        if c == SLASH {
+            p = skip_line_comment(s, p);
             continue;
         }
-        if c != SLASH {
+        if c != STAR {
             return Ans::Got(p, 0);
         }
-        let r = skip_line_comment(s, p);
+        let r = skip_comment(s, p);
         let Ans::Got(q, _) = r else {
             return r;
         };
@@ -126,24 +139,44 @@ fn skip_blanks_and_comments(s: &[u8], at: usize) -> Ans
     }
 }
 
-// Past every blank and comment from here on; the number is 0. Most calls meet no comment, and many no blank: the loop
-// over both is called only at a `/`, so that this function is small enough to stand in its callers.
+// A character of ASCII behind the space: of these, only a `/` may begin a comment, and none is a blank.
+fn is_token(b: u32) -> bool
+    ensures { λ r. ⌜ r ≡ (0x21 ‥ 0x7F) b ⌝ }
+{
+    b > SPACE && b < WIDE
+}
+
+// Whether this byte makes a `/` before it a comment.
+fn opens_comment(b: u32) -> bool
+    ensures { λ r. ⌜ r ≡ (is "*" or is "/") b ⌝ }
+{
+    b == STAR || b == SLASH
+}
+
+// Past every blank and comment from here on; the number is 0. Most calls meet no comment and no blank beyond ASCII, and
+// many no blank: the loop over all of them is called only where one may begin, from two places, so that this function
+// is small enough to stand in its callers.
 pub fn skip_blanks(s: &[u8], at: usize) -> Ans
     requires { ⌜ at ≤ length (now s) ⌝ }
     ensures { λ r. ⌜ Leaf nothing r (now (s .entry)) blanks at 0 ⌝ }
 {
-    let b = lex::byte(s, at);
-    if is_blank(b) {
-        let q = past_blanks(s, at + 1);
-        if lex::byte(s, q) != SLASH {
-            return Ans::Got(q, 0);
+    let mut p = at;
+    loop {
+        let b = lex::byte(s, p);
+        if is_token(b) {
+            if b != SLASH {
+                return Ans::Got(p, 0);
+            }
+            if opens_comment(lex::byte(s, p + 1)) {
+                return skip_blanks_and_comments(s, p);
+            }
+            return Ans::Got(p, 0);
         }
-        return skip_blanks_and_comments(s, q);
+        if !is_blank(b) {
+            return skip_blanks_and_comments(s, p);
+        }
+        p = p + 1;
     }
-    if b != SLASH {
-        return Ans::Got(at, 0);
-    }
-    skip_blanks_and_comments(s, at)
 }
 
 // Past the byte here and the blanks behind it; the number is 0.

@@ -18,8 +18,8 @@ use Rattle.rules.proofs.Ends.{top-got}
 use Rattle.rules.proofs.Moves.{moves, past-got}
 use Rattle.rules.proofs.Turns.{many-last}
 use Rattle.jsx.specs.Kind as Kind
-use Rattle.jsx.specs.Byte.{is, letter, digit, need, expect}
-use Rattle.jsx.specs.Blank.{blankByte, blank, blanks}
+use Rattle.jsx.specs.Byte.{is, _‥_, letter, digit, need, expect}
+use Rattle.jsx.specs.Blank.{blank, blanks}
 use Rattle.jsx.specs.Name.{same, opensName, inName, inWord, isThis, oneName, objectName, dashed, part, otherPart}
 use Rattle.jsx.specs.Name.{dotted, elementName}
 use Rattle.jsx.specs.Tag.{closeName, closeTag}
@@ -27,7 +27,8 @@ use Rattle.jsx.specs.Closing.{furtherOn, nameIn, named, partsOf, allSame, sameN
 use Rattle.jsx.proofs.Again.{nodeAround, onePartOf, otherPartOf, objectOf, elementName-once, closeTag-again}
 use Rattle.lex.specs.Contract.{outOf}
 use Rattle.lex.proofs.Laws as Lex
-use Rattle.blank.proofs.Laws.{blank-other, blank-slash}
+use Rattle.blank.proofs.Laws.{token-other, blank-other, blank-slash}
+use Rattle.word.proofs.Ascii.{opens-token}
 use Rattle.same.specs.Contract.{ReadsAt, Named}
 use Rattle.same.proofs.Forms.{nameAt, kindOf, one-low, begins, blanks-behind}
 use Rattle.closing.specs.Close.{Closes, nameFrom, closing, nameCount}
@@ -40,18 +41,6 @@ apart : (f : Test) (b k : ℕ) → f k ≡ false → f b ≡ true → eqb b k �
 apart f b k e h = ne-eqb b k (λ i. false-true (ap f i ∙ e) h)
 
 module _ (b : ℕ) (h : opensName b ≡ true) where
-  opens-no-blank : blankByte b ≡ false
-  unfolding blankByte opensName letter
-  opens-no-blank =
-      rw (
-        apart opensName b 9 refl h,
-        apart opensName b 10 refl h,
-        apart opensName b 11 refl h,
-        apart opensName b 12 refl h,
-        apart opensName b 13 refl h,
-        apart opensName b 32 refl h,
-      )
-
   opens-no-slash : is "/" b ≡ false
   unfolding opensName letter
   opens-no-slash = apart opensName b (code "/") refl h
@@ -69,23 +58,22 @@ unfolding inName inWord opensName letter digit
 no-name-shut b h = rw h
 
 module _ (s : List ℕ) (p : ℕ) where
-  none-here : blankByte (byteAt s p) ≡ false → is "/" (byteAt s p) ≡ false → readAt s blanks p ≡ got true nil p
+  none-here : (0x21 ‥ 0x7F) (byteAt s p) ≡ true → is "/" (byteAt s p) ≡ false → readAt s blanks p ≡ got true nil p
   unfolding blanks
-  none-here t u = many-last s blank 0 p (blank-other s (suc (length s)) 0 p t u)
+  none-here t u = many-last s blank 0 p (blank-other s (suc (length s)) 0 p (token-other s p t) u)
 
   none-at-name : opensName (byteAt s p) ≡ true → readAt s blanks p ≡ got true nil p
-  none-at-name h = none-here (opens-no-blank (byteAt s p) h) (opens-no-slash (byteAt s p) h)
+  none-at-name h = none-here (opens-token (byteAt s p) h) (opens-no-slash (byteAt s p) h)
 
   -- No blank stands at a `>`.
   pub none-at-shut : byteAt s p ≡ code ">" → readAt s blanks p ≡ got true nil p
-  unfolding blankByte
   none-at-shut h = none-here (rw h) (rw h)
 
   none-at-slash : byteAt s p ≡ code "/" → opensName (byteAt s (p + 1)) ≡ true → readAt s blanks p ≡ got true nil p
-  unfolding blanks blankByte
+  unfolding blanks
   none-at-slash h k =
       many-last s blank 0 p
-      (blank-slash s (suc (length s)) 0 p (rw h) (eq-eqb (byteAt s p) (code "/") h)
+      (blank-slash s (suc (length s)) 0 p (token-other s p (rw h)) (eq-eqb (byteAt s p) (code "/") h)
       (opens-no-star (byteAt s (p + 1)) k) (opens-no-slash (byteAt s (p + 1)) k))
 
   -- A byte that is asked for and is there.

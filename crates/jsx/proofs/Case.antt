@@ -69,12 +69,15 @@ failing (c ∷ cs) = pick (asWanted c) (failing cs) (c ∷ failing cs)
 -- To unfold this is to unfold every definition of the language.
 unfoldable pub wholeLanguage : ℕ
 unfolding Rattle.rules.specs.Forest._⋈_ Rattle.rules.specs.Forest.width Rattle.rules.specs.Forest.direct
-    Rattle.rules.specs.Forest.inside Rattle.rules.specs.Parse.opens Rattle.rules.specs.Parse.repeat
+    Rattle.rules.specs.Forest.inside Rattle.rules.specs.Parse.opens Rattle.rules.specs.Parse.codeOn
+    Rattle.rules.specs.Parse.codeAt Rattle.rules.specs.Parse.repeat
     Rattle.rules.specs.Parse.parse Rattle.rules.specs.Parse.parseAll Rattle.rules.specs.Record.count
     Rattle.rules.specs.Record.records Rattle.jsx.specs.Byte.letter Rattle.jsx.specs.Byte.digit
     Rattle.jsx.specs.Byte.quote Rattle.jsx.specs.Byte.lineEnd Rattle.jsx.specs.Byte.need
     Rattle.jsx.specs.Byte.expect Rattle.jsx.specs.Utf8.second Rattle.jsx.specs.Utf8.other
-    Rattle.jsx.specs.Utf8.sequence Rattle.jsx.specs.Utf8.utf8 Rattle.jsx.specs.Blank.blankByte
+    Rattle.jsx.specs.Utf8.sequence Rattle.jsx.specs.Utf8.utf8 Rattle.jsx.specs.Blank.spaceSeparator
+    Rattle.jsx.specs.Blank.whiteSpace Rattle.jsx.specs.Blank.lineTerminator
+    Rattle.jsx.specs.Blank.blankChar
     Rattle.jsx.specs.Blank.commentTurn Rattle.jsx.specs.Blank.comment Rattle.jsx.specs.Blank.lineTurn
     Rattle.jsx.specs.Blank.lineComment Rattle.jsx.specs.Blank.blank Rattle.jsx.specs.Blank.blanks
     Rattle.jsx.specs.Blank.pass Rattle.jsx.specs.Name.opensName Rattle.jsx.specs.Name.inWord

@@ -16,8 +16,8 @@ use Rattle.rules.proofs.Flow.{near, clear, IsNode, Steady}
 use Rattle.rules.proofs.Stuck.{NotStuck, never-stuck}
 use Rattle.rules.proofs.Deeper.{deepenLabel, deepen, width-deepen, count-deepen, direct-deepen, inside-deepen}
 use Rattle.rules.proofs.Deeper.{records-deepen, labels, isNode, fails, Deeper, deeper-clear, deeper-fails}
-use Rattle.rules.proofs.Deeper.{deeper-refuse, deeper-done, deeper-stop, deeper-step, deeper-when, deeper-starts}
-use Rattle.rules.proofs.Deeper.{deeper-look, deeper-seq, deeper-many, deeper-wrap, deeper-marked, deeper-paired, Deep}
+use Rattle.rules.proofs.Deeper.{deeper-refuse, deeper-done, deeper-stop, deeper-step, deeper-when, deeper-look}
+use Rattle.rules.proofs.Deeper.{deeper-over, deeper-seq, deeper-many, deeper-wrap, deeper-marked, deeper-paired, Deep}
 use Rattle.rules.proofs.Deeper.{deep, deeper-got}
 use Rattle.jsx.specs.Kind as Kind
 use Rattle.jsx.specs.Refusal.{tooLong, namesDiffer, fragmentClosedByName, elementClosedByFragment, tableTooSmall}
@@ -168,8 +168,8 @@ ruleset shape-rules = (
   deeper-stop,
   deeper-step,
   deeper-when,
-  deeper-starts,
   deeper-look,
+  deeper-over,
   deeper-seq,
   deeper-many,
   deeper-wrap,

@@ -22,8 +22,8 @@ blank-cases =
     on stage "< a . b / >" (rows (row 1 0 11 4294967295 5 0 0 (row 18 0 11 0 5 0 1 (row 7 2 7 1 5 0 2 (row 4 2 3 2 4 0 3
     (row 16 6 7 2 5 0 3 []))))))
     ∷ on stage "<a//b\r/>" (counted 3)
-    ∷ on stage "<a//\u{2028}\n/>" (at 3 4)
-    ∷ on stage "<a//\u{2029}" (at 3 4)
+    ∷ on stage "<a//\u{2028}\n/>" (counted 3)
+    ∷ on stage "<a//\u{2029}" (at 4 7)
     ∷ on stage "<a/*\u{2028}*//>" (counted 3)
     ∷ on run "//\u{2028}/*" (counted 1)
     ∷ on stage "<a /* " (at 17 3)

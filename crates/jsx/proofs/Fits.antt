@@ -17,7 +17,7 @@ use Rattle.rules.proofs.Run.{goes, both-read}
 use Rattle.rules.proofs.Got.{got-same, then-got, pick-case, going, wrap-read}
 use Rattle.rules.proofs.Again.{after-got}
 use Rattle.rules.proofs.Fits.{Fits, f-weak, f-down, f-done, f-stop, f-step, f-refuse, f-when, f-hungry, f-calm}
-use Rattle.rules.proofs.Fits.{f-starts, f-after, f-seq, f-many, f-wrap, f-said, f-marked, f-paired, Pays, pick-least}
+use Rattle.rules.proofs.Fits.{f-look, f-after, f-seq, f-many, f-wrap, f-said, f-marked, f-paired, Pays, pick-least}
 use Rattle.rules.proofs.Fits.{pick-same, pays-first, pays, Spends, thrifty, thrifty-far, one-a-byte}
 use Rattle.jsx.specs.Kind as Kind
 use Rattle.jsx.specs.Byte.{is, _or_, need, expect}
@@ -121,7 +121,7 @@ ruleset byte-rules = (
   step-keeps,
   flat,
   f-when,
-  f-starts,
+  f-look,
   f-after,
   seq-keeps,
   f-many,

@@ -16,6 +16,8 @@ pub mod Readings
 pub mod Depths
 -- What was opened and never closed, and what is broken.
 pub mod Unclosed
+-- Blanks beyond ASCII, and the ends of `//` comments.
+pub mod Blanks
 -- Limits, the table's room, the bytes of a record, and what the program prints.
 pub mod Calls
 -- ---- How the rules read

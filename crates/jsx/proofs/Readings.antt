@@ -95,7 +95,7 @@ smaller-ones =
     ∷ on stage "<a>{(.5)}</a>" (at 3 5)
     ∷ on stage "<a>{a?.5:1}</a>" (at 3 5)
     -- A17
-    ∷ on stage "<a//b\u{2028}" (at 3 5)
+    ∷ on stage "<a//b\u{2028}" (at 4 8)
     ∷ on stage "<a/*\u{2028}*/b=\"\u{2029}\">\u{2028}{'\u{2029}'}</a>" (counted 11)
     -- A18
     ∷ onBytes stage (0x41 ∷ 0xE2 ∷ 0x28 ∷ 0xA1 ∷ []) (at 2 1)
@@ -127,7 +127,7 @@ smaller-ones =
     -- A23
     ∷ on stage "<a/>/*" (at 17 4)
     ∷ on run "</*" (at 17 1)
-    ∷ on stage "<a/>//\u{2028}\n<b/>" (at 3 6)
+    ∷ on stage "<a/>//\u{2028}\n<b/>" (span 12 10 11)
     -- A24
     ∷ on stage "<a/><" (span 12 4 5)
     ∷ on stage "<a/><<" (at 13 4)

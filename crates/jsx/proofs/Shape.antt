@@ -1,17 +1,18 @@
 -- How far each rule of the language looks: a flow for each, from what may be entered one level deeper.
 use mathlib.Core.Path.{_≡_, refl, subst, sym}
-use mathlib.Core.Bool.{true, false}
+use mathlib.Core.Bool.{Bool, true, false}
 use Prim.Native.Nat.{ℕ, zero, suc}
 use Prim.Native.Char.{Char, code}
-use lib.Dec.{eqb}
+use lib.Dec.{ltb, eqb}
 use borrow.Author.Tests.{eqb-true}
 use Rattle.rules.specs.Forest.{node}
 use Rattle.rules.specs.Rule.{Test, Rule, stop, step, after, seq, paired, nodeOf}
+use Rattle.rules.specs.Parse.{pick}
 use Rattle.rules.proofs.Run.{goes}
 use Rattle.rules.proofs.Moves.{moves}
 use Rattle.rules.proofs.Flow.{Mode, shut, near, pend, same, shut-near, shut-pend, tight-near, near-pend, Seen}
 use Rattle.rules.proofs.Flow.{seen-near, seen-pend, clear, advances, lacking, Flow, f-weak, f-done, f-stop, f-step}
-use Rattle.rules.proofs.Flow.{f-refuse, f-when, f-expect, f-starts, f-after, f-seq, f-many, f-wrap, f-said, f-marked}
+use Rattle.rules.proofs.Flow.{f-refuse, f-when, f-expect, f-look, f-after, f-seq, f-many, f-wrap, f-said, f-marked}
 use Rattle.rules.proofs.Flow.{f-paired, f-pass, f-last}
 use Rattle.jsx.specs.Kind as Kind
 use Rattle.jsx.specs.Byte.{is, _or_, need, expect}
@@ -92,7 +93,7 @@ unfolding need
 need-flow sn = f-when sn (f-refuse refl) (f-refuse refl)
 
 ruleset byte-rules =
-    (f-refuse, f-done, f-stop, step-near, need-flow, seen-near, seen-pend, f-when, f-starts, f-marked, f-many, seq-near)
+    (f-refuse, f-done, f-stop, step-near, need-flow, seen-near, seen-pend, f-when, f-look, f-marked, f-many, seq-near)
 
 expect-near : (c : Char) → {k : Mode} → L near (expect c) near k
 unfolding expect
@@ -103,9 +104,18 @@ unfolding expect
 expect-shut c h =
     f-expect (λ b e. subst (λ (n : ℕ). closer n ≡ true) (sym (eqb-true b (code c) e)) h) (need-flow seen-near)
 
+-- A byte that closes is a character of its own.
+closer-low : (b : ℕ) → closer b ≡ true → ltb b 0x80 ≡ true
+unfolding closer
+closer-low b h = go (is ">" b) refl h
+  where
+    go : (c : Bool) → is ">" b ≡ c → pick c true (is "}" b) ≡ true → ltb b 0x80 ≡ true
+    go true e k = rw (eqb-true b (code ">") e)
+    go false e k = rw (eqb-true b (code "}") k)
+
 blanks-near : {k : Mode} → L near blanks near k
 unfolding blanks blank comment commentTurn lineComment lineTurn advances lacking closer
-blanks-near = search byte-rules depth 12
+blanks-near = search (byte-rules, closer-low) depth 12
 
 -- Blanks go on.
 pub blanks-goes : goes blanks ≡ true

@@ -1,11 +1,11 @@
--- Bytes written as characters, tests of a byte, and the rules that ask for one byte.
+-- Bytes written as characters, tests of a byte or of a character, and the rules that ask for one of them.
 use Prim.Native.Nat.{ℕ, _+_, _/_, _%_}
 use Prim.Native.Char.{Char, code}
 use Prim.Native.String as S
 use mathlib.Core.Bool.{true, false}
 use mathlib.Core.List.{List, [], _∷_}
 use lib.Dec.{leb, ltb, eqb}
-use Rattle.rules.specs.Rule.{Test, Rule, step, refuse, when, here, _⇒_∣_}
+use Rattle.rules.specs.Rule.{Test, Rule, step, refuse, when, here, _⨾_, _⇒_∣_}
 use Rattle.rules.specs.Parse.{pick}
 use Rattle.jsx.specs.Refusal.{unexpected, endOfInput}
 
@@ -25,6 +25,11 @@ bytesOf (S._∷_ c w) = encoded (code c) (bytesOf w)
 -- The byte of this (ASCII) character.
 abbrev pub is : Char → Test
 is c b = eqb b (code c)
+
+-- One of the characters of this text, by its code.
+abbrev pub oneOf : S.String → Test
+oneOf S.[] c = false
+oneOf (S._∷_ x w) c = pick (eqb c (code x)) true (oneOf w c)
 
 -- The end of the input.
 abbrev pub end : Test
@@ -68,3 +73,11 @@ unfoldable pub expect : Char → Rule
 expect c =
     when (is c) ⇒ step
     ∣ need
+
+-- The bytes of the character here, as many as the first of them says.
+abbrev pub character : Rule
+character =
+    when (0xC0 ‥ 0xDF) ⇒ step ⨾ step
+    ∣ when (0xE0 ‥ 0xEF) ⇒ step ⨾ step ⨾ step
+    ∣ when (0xF0 ‥ 0xF7) ⇒ step ⨾ step ⨾ step ⨾ step
+    ∣ step

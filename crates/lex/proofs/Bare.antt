@@ -7,8 +7,8 @@ use native.Mathlib.Omega.{arith}
 use lib.ListN.{length}
 use lib.Dec.{ltb}
 use Rattle.rules.specs.Forest.{Forest, nil, byte, group, _⋈_, width, direct}
-use Rattle.rules.specs.Rule.{Rule, done, stop, step, refuse, when, starts, after, seq, many, wrap, said, marked, paired}
-use Rattle.rules.specs.Parse.{Answer, got, pick, behind, byteAt, opens, repeat, parse}
+use Rattle.rules.specs.Rule.{Rule, done, stop, step, refuse, when, look, after, seq, many, wrap, said, marked, paired}
+use Rattle.rules.specs.Parse.{Answer, got, pick, behind, byteAt, stands, repeat, parse}
 use Rattle.rules.specs.Record.{count}
 use Rattle.rules.proofs.Run.{goes, Then, Lies, never, both, then-if, then-any, then-then, then-behind, then-refusal}
 use Rattle.rules.proofs.Run.{wide-got, lies-got}
@@ -24,7 +24,7 @@ bare stop = true
 bare step = true
 bare (refuse n w) = true
 bare (when f t u) = pick (bare t) (bare u) false
-bare (starts w t u) = pick (bare t) (bare u) false
+bare (look w t u) = pick (bare t) (bare u) false
 bare (after r f t u) = pick (bare t) (bare u) false
 bare (seq t u) = pick (bare t) (bare u) false
 bare (many t) = bare t
@@ -68,9 +68,9 @@ module _ (s : List ℕ) (F : ℕ) where
   flat (when f t u) h e at =
       let g = both (bare t) (bare u) h in
       then-if FlatTo (f (byteAt s at)) _ _ (flat t (g .0) e at) (flat u (g .1) e at)
-  flat (starts w t u) h e at =
+  flat (look w t u) h e at =
       let g = both (bare t) (bare u) h in
-      then-if FlatTo (opens s w at) _ _ (flat t (g .0) e at) (flat u (g .1) e at)
+      then-if FlatTo (stands s w at) _ _ (flat t (g .0) e at) (flat u (g .1) e at)
   flat (after r f t u) h e at = let g = both (bare t) (bare u) h in
       then-any FlatTo (parse s F r e at) _
       (λ a o p. then-if FlatTo (f (byteAt s p)) _ _ (flat t (g .0) e at) (flat u (g .1) e at))

@@ -1,5 +1,7 @@
 -- Answers, bytes and tests: what every leaf's proof uses.
 pub mod Laws
+-- A byte and a range of bytes.
+pub mod Ranges
 -- A loop of code that reads `many t`, turn by turn.
 pub mod Turns
 -- Runs of bytes that pass a test, and the loop that reads one.

@@ -7,9 +7,9 @@ use native.Mathlib.Omega.{arith}
 use lib.ListN.{length}
 use lib.Dec.{ltb}
 use Rattle.rules.specs.Forest.{Forest, nil, byte}
-use Rattle.rules.specs.Rule.{Rule, done, stop, step, refuse, when, starts, after, seq, many, wrap, said, marked}
+use Rattle.rules.specs.Rule.{Rule, done, stop, step, refuse, when, look, after, seq, many, wrap, said, marked}
 use Rattle.rules.specs.Rule.{paired}
-use Rattle.rules.specs.Parse.{got, trouble, pick, byteAt, opens, parse}
+use Rattle.rules.specs.Parse.{got, trouble, pick, byteAt, stands, parse}
 use Rattle.rules.proofs.Run.{both, never}
 use Rattle.rules.proofs.Got.{trouble-got, false-true, refusal-got, got-same, then-got, pick-case, SeqOut, two}
 use Rattle.rules.proofs.Got.{one, seq-read, SaidOut, so, otherwise, stopped, said-read, wrap-read, PairOut, lone}
@@ -50,9 +50,9 @@ module _ (s : List ℕ) (F : ℕ) where
       let b = both (advances t) (advances u) v in
       pick-case (f (byteAt s at)) (parse s F t e at) (parse s F u e at) h (λ z. advance t (b .0) e at o p z)
       (λ z. advance u (b .1) e at o p z)
-  advance (starts w t u) v e at o p h =
+  advance (look w t u) v e at o p h =
       let b = both (advances t) (advances u) v in
-      pick-case (opens s w at) (parse s F t e at) (parse s F u e at) h (λ z. advance t (b .0) e at o p z)
+      pick-case (stands s w at) (parse s F t e at) (parse s F u e at) h (λ z. advance t (b .0) e at o p z)
       (λ z. advance u (b .1) e at o p z)
   advance (after r f t u) v e at o p h =
       let b = both (advances t) (advances u) v in

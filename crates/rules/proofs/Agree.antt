@@ -2,28 +2,106 @@
 use mathlib.Core.Path.{_≡_, refl, sym, ap, _∙_}
 use mathlib.Core.Bool.{Bool, true, false}
 use mathlib.Core.List.{List, [], _∷_, _++_}
-use Prim.Native.Nat.{ℕ, _+_, _≤_, _<_}
+use Prim.Native.Nat.{ℕ, zero, suc, _+_, _-_, _*_, _≤_, _<_}
 use native.Mathlib.Omega.{arith}
 use lib.ListN.{length, getD, List·getD-append, List·getD-eq-default}
 use lib.Seq.{getD-append-add}
 use lib.Dec.{eqb, ltb}
 use borrow.Author.Tests.{ltb-true, ltb-false, lt-ltb, ne-eqb}
-use Rattle.rules.specs.Parse.{pick, byteAt, opens}
+use Rattle.rules.specs.Rule.{Look, bytes, char}
+use Rattle.rules.specs.Parse.{pick, byteAt, opens, noChar, codeOn, codeAt, stands}
 unfoldable pub use Rattle.rules.specs.Parse.{Plain}
 use Rattle.rules.proofs.Got.{false-true}
 use Rattle.rules.proofs.Local.{ltb-twin, Seen}
 
 -- No byte of these passes the test.
-abbrev pub Lacks : (ℕ → Bool) → List ℕ → Type 0
-Lacks Q [] = Unit {0}
-Lacks Q (b ∷ w) = (Q b ≡ false) × Lacks Q w
+abbrev pub Without : (ℕ → Bool) → List ℕ → Type 0
+Without Q [] = Unit {0}
+Without Q (b ∷ w) = (Q b ≡ false) × Without Q w
 
--- Fewer runs of bytes are asked for.
-pub seen-less : (P P′ : List ℕ → Type 0) (s s′ : List ℕ) (p p′ : ℕ)
-    → ((w : List ℕ) → P′ w → P w)
+-- What is asked does not go on behind a byte that passes the test: that is none of these bytes, or a character of its
+-- own.
+abbrev pub Lacks : (ℕ → Bool) → Look → Type 0
+Lacks Q (bytes w) = Without Q w
+Lacks Q (char f) = (b : ℕ) → Q b ≡ true → ltb b 0x80 ≡ true
+
+-- Less is asked.
+pub seen-less : (P P′ : Look → Type 0) (s s′ : List ℕ) (p p′ : ℕ)
+    → ((w : Look) → P′ w → P w)
     → Seen P s s′ p p′
     → Seen P′ s s′ p p′
 seen-less P P′ s s′ p p′ h g = (g .0, g .1, λ w x. g .2 w (h w x))
+
+-- Two inputs; the place p of the first is the place p′ of the second where p + k′ ≡ p′ + k. The same bytes stand in
+-- both from lo up to h, and the last of them passes a test.
+module _ (s s′ : List ℕ) (k k′ lo h : ℕ)
+    (bs : (p p′ : ℕ) → p + k′ ≡ p′ + k → lo ≤ p → p < h → byteAt s p ≡ byteAt s′ p′)
+    (Q : ℕ → Bool) (al : (j : ℕ) → j + 1 ≡ h → Q (byteAt s j) ≡ true) where
+  opens-twin : (w : List ℕ) (p p′ : ℕ) → p + k′ ≡ p′ + k → lo ≤ p → p < h → Without Q w → opens s w p ≡ opens s′ w p′
+  unfolding opens
+  opens-twin [] p p′ tw l lt x = refl
+  opens-twin (b ∷ w) p p′ tw l lt x =
+      go (ltb (p + 1) h) refl (λ m. opens-twin w (p + 1) (p′ + 1) (omega arith) (omega arith) m (x .1))
+    where
+      same-byte : byteAt s p ≡ byteAt s′ p′
+      same-byte = bs p p′ tw l lt
+
+      edge : Q (byteAt s p) ≡ true
+          → pick (eqb (byteAt s p) b) (opens s w (p + 1)) false
+          ≡ pick (eqb (byteAt s′ p′) b) (opens s′ w (p′ + 1)) false
+      edge m =
+          let n : eqb (byteAt s p) b ≡ false = ne-eqb (byteAt s p) b (λ e. false-true (ap Q e ∙ x .0) m) in
+          let n′ : eqb (byteAt s′ p′) b ≡ false = ap (λ (v : ℕ). eqb v b) (sym same-byte) ∙ n in
+          rw (n, n′)
+
+      go : (c : Bool)
+          → ltb (p + 1) h ≡ c
+          → (p + 1 < h → opens s w (p + 1) ≡ opens s′ w (p′ + 1))
+          → pick (eqb (byteAt s p) b) (opens s w (p + 1)) false
+          ≡ pick (eqb (byteAt s′ p′) b) (opens s′ w (p′ + 1)) false
+      go true e ih = λ i. pick (eqb (same-byte i) b) (ih (ltb-true _ _ e) i) false
+      go false e ih = let y : h ≤ p + 1 = ltb-false _ _ e in edge (al p (omega arith))
+
+  module _ (low : (b : ℕ) → Q b ≡ true → ltb b 0x80 ≡ true) where
+    -- The last byte, if it is at p, is a character of its own.
+    last-low : (p : ℕ) → ltb (p + 1) h ≡ false → p < h → ltb (byteAt s p) 0x80 ≡ true
+    last-low p e lt = let y : h ≤ p + 1 = ltb-false _ _ e in low (byteAt s p) (al p (omega arith))
+
+    on-twin : (n c p p′ : ℕ) → p + k′ ≡ p′ + k → lo ≤ p → p < h → codeOn s n c p ≡ codeOn s′ n c p′
+    unfolding codeOn
+    on-twin zero c p p′ tw l lt = refl
+    on-twin (suc n) c p p′ tw l lt =
+        go (ltb (p + 1) h) refl (λ d m. on-twin n d (p + 1) (p′ + 1) (omega arith) (omega arith) m)
+      where
+        go : (v : Bool)
+            → ltb (p + 1) h ≡ v
+            → ((d : ℕ) → p + 1 < h → codeOn s n d (p + 1) ≡ codeOn s′ n d (p′ + 1))
+            → codeOn s (suc n) c p ≡ codeOn s′ (suc n) c p′
+        go true e ih =
+            λ i. let b = bs p p′ tw l lt i in
+            pick (ltb b 0x80) noChar (pick (ltb b 0xC0) (ih (c * 0x40 + (b - 0x80)) (ltb-true _ _ e) i) noChar)
+        go false e ih = rw (← bs p p′ tw l lt, last-low p e lt)
+
+    code-twin : (p p′ : ℕ) → p + k′ ≡ p′ + k → lo ≤ p → p < h → codeAt s p ≡ codeAt s′ p′
+    unfolding codeAt
+    code-twin p p′ tw l lt = go (ltb (p + 1) h) refl
+      where
+        go : (v : Bool) → ltb (p + 1) h ≡ v → codeAt s p ≡ codeAt s′ p′
+        go true e = rw (← bs p p′ tw l lt, m 1 _, m 2 _, m 3 _)
+          where
+            m : (n c : ℕ) → codeOn s n c (p + 1) ≡ codeOn s′ n c (p′ + 1)
+            m n c = on-twin n c (p + 1) (p′ + 1) (omega arith) (omega arith) (ltb-true _ _ e)
+        go false e = rw (← bs p p′ tw l lt, last-low p e lt)
+
+  -- Nothing that does not go on behind such a byte reaches across h.
+  pub stands-twin : (w : Look) (p p′ : ℕ)
+      → p + k′ ≡ p′ + k
+      → lo ≤ p
+      → p < h
+      → Lacks Q w
+      → stands s w p ≡ stands s′ w p′
+  stands-twin (bytes w) p p′ tw l lt x = opens-twin w p p′ tw l lt x
+  stands-twin (char f) p p′ tw l lt x = ap f (code-twin x p p′ tw l lt)
 
 -- Two inputs with the same bytes before h.
 module _ (s s′ : List ℕ) (h : ℕ) (bs : (p : ℕ) → p < h → byteAt s p ≡ byteAt s′ p) (l : h ≤ length s)
@@ -38,39 +116,16 @@ module _ (s s′ : List ℕ) (h : ℕ) (bs : (p : ℕ) → p < h → byteAt s p 
         ∙ sym (lt-ltb p′ (length s′) (omega arith)),
   )
 
-  -- They show the same there, if no run of bytes is asked for.
+  -- They show the same there, if nothing is asked but the byte.
   pub before-plain : (lo p p′ : ℕ) → p + 0 ≡ p′ + 0 → lo ≤ p → p < h → Seen (λ w. ⊥) s s′ p p′
   before-plain lo p p′ tw lw lt = let b = bytes-same p p′ tw lt in (b .0, b .1, λ w x. absurd x)
 
-  -- Where the last of these bytes passes a test, no run of bytes that fail it reaches across h.
+  -- Where the last of these bytes passes a test, they show the same there, if only such things are asked.
   module _ (Q : ℕ → Bool) (al : (j : ℕ) → j + 1 ≡ h → Q (byteAt s j) ≡ true) where
-    opens-same : (w : List ℕ) (p : ℕ) → p < h → Lacks Q w → opens s w p ≡ opens s′ w p
-    unfolding opens
-    opens-same [] p lt x = refl
-    opens-same (b ∷ w) p lt x = go (ltb (p + 1) h) refl (λ k. opens-same w (p + 1) k (x .1))
-      where
-        edge : Q (byteAt s p) ≡ true
-            → pick (eqb (byteAt s p) b) (opens s w (p + 1)) false
-            ≡ pick (eqb (byteAt s′ p) b) (opens s′ w (p + 1)) false
-        edge m =
-            let n : eqb (byteAt s p) b ≡ false = ne-eqb (byteAt s p) b (λ e. false-true (ap Q e ∙ x .0) m) in
-            let n′ : eqb (byteAt s′ p) b ≡ false = ap (λ (v : ℕ). eqb v b) (sym (bs p lt)) ∙ n in
-            ap (λ (v : Bool). pick v (opens s w (p + 1)) false) n
-            ∙ sym (ap (λ (v : Bool). pick v (opens s′ w (p + 1)) false) n′)
-
-        go : (c : Bool)
-            → ltb (p + 1) h ≡ c
-            → (p + 1 < h → opens s w (p + 1) ≡ opens s′ w (p + 1))
-            → pick (eqb (byteAt s p) b) (opens s w (p + 1)) false
-            ≡ pick (eqb (byteAt s′ p) b) (opens s′ w (p + 1)) false
-        go true e ih = λ i. pick (eqb (bs p lt i) b) (ih (ltb-true _ _ e) i) false
-        go false e ih = let y : h ≤ p + 1 = ltb-false _ _ e in edge (al p (omega arith))
-
-    -- So they show the same before h, if only such runs are asked for.
     pub before : (lo p p′ : ℕ) → p + 0 ≡ p′ + 0 → lo ≤ p → p < h → Seen (Lacks Q) s s′ p p′
     before lo p p′ tw lw lt =
         let b = bytes-same p p′ tw lt in
-        (b .0, b .1, λ w x. opens-same w p lt x ∙ ap (opens s′ w) (omega arith))
+        (b .0, b .1, λ w x. stands-twin s s′ 0 0 lo h (λ q q′ e l m. bytes-same q q′ e m .0) Q al w p p′ tw lw lt x)
 
 -- Two inputs with the same bytes from lo on, moved along, up to their ends.
 module _ (s s′ : List ℕ) (k k′ lo : ℕ) (bs : (p p′ : ℕ) → p + k′ ≡ p′ + k → lo ≤ p → byteAt s p ≡ byteAt s′ p′)
@@ -81,10 +136,29 @@ module _ (s s′ : List ℕ) (k k′ lo : ℕ) (bs : (p p′ : ℕ) → p + k′
   opens-moved (b ∷ w) p p′ tw l =
       λ i. pick (eqb (bs p p′ tw l i) b) (opens-moved w (p + 1) (p′ + 1) (omega arith) (omega arith) i) false
 
-  -- They show the same from lo on, whatever is asked for.
-  pub moved-along : (P : List ℕ → Type 0) (hi p p′ : ℕ) → p + k′ ≡ p′ + k → lo ≤ p → p < hi → Seen P s s′ p p′
+  on-moved : (n c p p′ : ℕ) → p + k′ ≡ p′ + k → lo ≤ p → codeOn s n c p ≡ codeOn s′ n c p′
+  unfolding codeOn
+  on-moved zero c p p′ tw l = refl
+  on-moved (suc n) c p p′ tw l =
+      λ i. let b = bs p p′ tw l i in
+      pick (ltb b 0x80) noChar (pick (ltb b 0xC0)
+      (on-moved n (c * 0x40 + (b - 0x80)) (p + 1) (p′ + 1) (omega arith) (omega arith) i) noChar)
+
+  code-moved : (p p′ : ℕ) → p + k′ ≡ p′ + k → lo ≤ p → codeAt s p ≡ codeAt s′ p′
+  unfolding codeAt
+  code-moved p p′ tw l = rw (← bs p p′ tw l, m 1 _, m 2 _, m 3 _)
+    where
+      m : (n c : ℕ) → codeOn s n c (p + 1) ≡ codeOn s′ n c (p′ + 1)
+      m n c = on-moved n c (p + 1) (p′ + 1) (omega arith) (omega arith)
+
+  stands-moved : (w : Look) (p p′ : ℕ) → p + k′ ≡ p′ + k → lo ≤ p → stands s w p ≡ stands s′ w p′
+  stands-moved (bytes w) p p′ tw l = opens-moved w p p′ tw l
+  stands-moved (char f) p p′ tw l = ap f (code-moved p p′ tw l)
+
+  -- They show the same from lo on, whatever is asked.
+  pub moved-along : (P : Look → Type 0) (hi p p′ : ℕ) → p + k′ ≡ p′ + k → lo ≤ p → p < hi → Seen P s s′ p p′
   moved-along P hi p p′ tw l h =
-      (bs p p′ tw l, ltb-twin k k′ p (length s) p′ (length s′) tw ls, λ w _. opens-moved w p p′ tw l)
+      (bs p p′ tw l, ltb-twin k k′ p (length s) p′ (length s′) tw ls, λ w _. stands-moved w p p′ tw l)
 
 -- ---- bytes of two lists, one behind the other
 

@@ -6,9 +6,9 @@ use Prim.Native.Nat.{ℕ, zero, suc, _+_}
 use lib.ListN.{length}
 use lib.Dec.{ltb}
 use Rattle.rules.specs.Forest.{Label, node, content, Forest, nil, byte, group, _⋈_, width, direct, inside}
-use Rattle.rules.specs.Rule.{Test, Place, Verdict, fine, differ, Rule, done, stop, step, refuse, when, starts}
+use Rattle.rules.specs.Rule.{Test, Place, Verdict, fine, differ, Look, Rule, done, stop, step, refuse, when, look}
 use Rattle.rules.specs.Rule.{after, seq, many, wrap, said, marked, paired}
-use Rattle.rules.specs.Parse.{Answer, got, trouble, pick, andThen, behind, byteAt, opens, judged, repeat, parse}
+use Rattle.rules.specs.Parse.{Answer, got, trouble, pick, andThen, behind, byteAt, stands, judged, repeat, parse}
 use Rattle.rules.specs.Record.{row, count, records}
 use Rattle.rules.proofs.Run.{Then, then-if, then-then, then-any, then-behind, then-refusal, both, never, goes}
 use Rattle.rules.proofs.Run.{on, Goes}
@@ -97,7 +97,7 @@ labels stop = []
 labels step = []
 labels (refuse n w) = []
 labels (when f t u) = labels t ++ labels u
-labels (starts w t u) = labels t ++ labels u
+labels (look w t u) = labels t ++ labels u
 labels (after r f t u) = labels t ++ labels u
 labels (seq t u) = labels t ++ labels u
 labels (many t) = labels t
@@ -155,8 +155,8 @@ module _ (k : ℕ) where
   kept s F (when f t u) c n e at = let g = both (clear t) (clear u) c in let m = nodes-both (labels t) (labels u) n in
       then-if Kept (f (byteAt s at)) (parse s F t e at) (parse s F u e at) (kept s F t (g .0) (m .0) e at)
       (kept s F u (g .1) (m .1) e at)
-  kept s F (starts w t u) c n e at = let g = both (clear t) (clear u) c in let m = nodes-both (labels t) (labels u) n in
-      then-if Kept (opens s w at) (parse s F t e at) (parse s F u e at) (kept s F t (g .0) (m .0) e at)
+  kept s F (look w t u) c n e at = let g = both (clear t) (clear u) c in let m = nodes-both (labels t) (labels u) n in
+      then-if Kept (stands s w at) (parse s F t e at) (parse s F u e at) (kept s F t (g .0) (m .0) e at)
       (kept s F u (g .1) (m .1) e at)
   kept s F (after r f t u) c n e at =
       let g = both (clear t) (clear u) c in
@@ -195,7 +195,7 @@ fails stop = false
 fails step = false
 fails (refuse n w) = true
 fails (when f t u) = pick (fails t) (fails u) false
-fails (starts w t u) = pick (fails t) (fails u) false
+fails (look w t u) = pick (fails t) (fails u) false
 fails (after r f t u) = pick (fails t) (fails u) false
 fails (seq t u) = pick (fails t) true (pick (goes t) (fails u) false)
 fails (many t) = false
@@ -230,9 +230,9 @@ nothing s F (when f t u) h e at =
     let g = both (fails t) (fails u) h in
     then-if Nothing (f (byteAt s at)) (parse s F t e at) (parse s F u e at) (nothing s F t (g .0) e at)
     (nothing s F u (g .1) e at)
-nothing s F (starts w t u) h e at =
+nothing s F (look w t u) h e at =
     let g = both (fails t) (fails u) h in
-    then-if Nothing (opens s w at) (parse s F t e at) (parse s F u e at) (nothing s F t (g .0) e at)
+    then-if Nothing (stands s w at) (parse s F t e at) (parse s F u e at) (nothing s F t (g .0) e at)
     (nothing s F u (g .1) e at)
 nothing s F (after r f t u) h e at = let g = both (fails t) (fails u) h in
     then-any Nothing (parse s F r e at) (λ a o p. pick (f (byteAt s p)) (parse s F t e at) (parse s F u e at))
@@ -266,17 +266,17 @@ pub data Deeper (k : ℕ) : Rule → Rule → Type 0 where
   deeper-stop : Deeper k stop stop
   deeper-step : Deeper k step step
   deeper-when : {f : Test} {t u t′ u′ : Rule} → Deeper k t t′ → Deeper k u u′ → Deeper k (when f t u) (when f t′ u′)
-  deeper-starts : {w : List ℕ} {t u t′ u′ : Rule}
+  deeper-look : {w : Look} {t u t′ u′ : Rule}
       → Deeper k t t′
       → Deeper k u u′
-      → Deeper k (starts w t u) (starts w t′ u′)
+      → Deeper k (look w t u) (look w t′ u′)
   deeper-after : {f : Test} {r t u r′ t′ u′ : Rule}
       → Deeper k r r′
       → Deeper k t t′
       → Deeper k u u′
       → Deeper k (after r f t u) (after r′ f t′ u′)
   -- what is only looked at may stay as it is
-  deeper-look : {f : Test} {r t u t′ u′ : Rule}
+  deeper-over : {f : Test} {r t u t′ u′ : Rule}
       → Deeper k t t′
       → Deeper k u u′
       → Deeper k (after r f t u) (after r f t′ u′)
@@ -363,11 +363,11 @@ module _ (k : ℕ) where
     deep deeper-stop e at = refl
     deep deeper-step e at = deep-if (ltb at (length s)) _ _ _ _ refl tt
     deep (deeper-when {f = f} h g) e at = deep-if (f (byteAt s at)) _ _ _ _ (deep h e at) (deep g e at)
-    deep (deeper-starts {w = w} h g) e at = deep-if (opens s w at) _ _ _ _ (deep h e at) (deep g e at)
+    deep (deeper-look {w = w} h g) e at = deep-if (stands s w at) _ _ _ _ (deep h e at) (deep g e at)
     deep (deeper-after {f = f} {r = r} {r′ = r′} l h g) e at =
         deep-then (parse s F r e at) (parse s F r′ e at) _ _ (deep l e at)
         (λ a o p. deep-if (f (byteAt s p)) _ _ _ _ (deep h e at) (deep g e at))
-    deep (deeper-look {f = f} {r = r} {t = t} {u = u} {t′ = t′} {u′ = u′} h g) e at =
+    deep (deeper-over {f = f} {r = r} {t = t} {u = u} {t′ = t′} {u′ = u′} h g) e at =
         deep-look (parse s F r e at) (λ p. pick (f (byteAt s p)) (parse s F t e at) (parse s F u e at))
         (λ p. pick (f (byteAt s p)) (parse s F t′ e at) (parse s F u′ e at))
         (λ p. deep-if (f (byteAt s p)) _ _ _ _ (deep h e at) (deep g e at))

@@ -9,9 +9,9 @@ use lib.ListN.{length}
 use lib.Dec.{ltb}
 use borrow.Author.Tests.{ltb-true, lt-ltb}
 use Rattle.rules.specs.Forest.{Forest, nil, byte, _⋈_}
-use Rattle.rules.specs.Rule.{Rule, done, stop, step, refuse, when, starts, after, seq, many, wrap, said, marked}
+use Rattle.rules.specs.Rule.{Rule, done, stop, step, refuse, when, look, after, seq, many, wrap, said, marked}
 use Rattle.rules.specs.Rule.{paired}
-use Rattle.rules.specs.Parse.{Answer, got, trouble, pick, behind, byteAt, opens, repeat, parse}
+use Rattle.rules.specs.Parse.{Answer, got, trouble, pick, behind, byteAt, stands, repeat, parse}
 use Rattle.rules.proofs.Run.{Then, Either, then-if, then-then, then-any, then-behind, then-refusal, then-judged}
 use Rattle.rules.proofs.Run.{goes-repeat, Goes}
 use Rattle.rules.proofs.Got.{trouble-got, then-got, behind-out, got-same}
@@ -59,7 +59,7 @@ module _ (s : List ℕ) (F : ℕ) where
   top step e at i = top-step (length s) at (ltb at (length s)) refl (byte (byteAt s at) nil)
   top (refuse n w) e at i = then-refusal In n w e at
   top (when f t u) e at i = then-if In (f (byteAt s at)) _ _ (top t e at i) (top u e at i)
-  top (starts w t u) e at i = then-if In (opens s w at) _ _ (top t e at i) (top u e at i)
+  top (look w t u) e at i = then-if In (stands s w at) _ _ (top t e at i) (top u e at i)
   top (after r f t u) e at i =
       then-any In (parse s F r e at) _ (λ a o p. then-if In (f (byteAt s p)) _ _ (top t e at i) (top u e at i))
   top (seq t u) e at i =
@@ -116,7 +116,7 @@ module _ (s : List ℕ) (F : ℕ) where
   sees step e at i = omega arith
   sees (refuse n w) e at i = tt
   sees (when f t u) e at i = (omega arith, either-both (f (byteAt s at)) _ _ (sees t e at i) (sees u e at i))
-  sees (starts w t u) e at i = (omega arith, tt, either-both (opens s w at) _ _ (sees t e at i) (sees u e at i))
+  sees (look w t u) e at i = (omega arith, tt, either-both (stands s w at) _ _ (sees t e at i) (sees u e at i))
   sees (after r f t u) e at i = (
     sees r e at i,
     then-top (parse s F r e at) _ (top r e at i)

@@ -8,9 +8,9 @@ use native.Mathlib.Omega.{arith}
 use lib.ListN.{length}
 use lib.Dec.{ltb}
 use Rattle.rules.specs.Forest.{Label, node, content, Forest, nil, byte, group, _⋈_, width}
-use Rattle.rules.specs.Rule.{Place, Test, Verdict, Rule, done, stop, step, refuse, when, starts, after, seq, many}
-use Rattle.rules.specs.Rule.{wrap, said, marked, paired}
-use Rattle.rules.specs.Parse.{Answer, got, trouble, pick, byteAt, opens, repeat, parse, parseAll}
+use Rattle.rules.specs.Rule.{Place, Test, Verdict, Look, Rule, done, stop, step, refuse, when, look, after, seq}
+use Rattle.rules.specs.Rule.{many, wrap, said, marked, paired}
+use Rattle.rules.specs.Parse.{Answer, got, trouble, pick, byteAt, stands, repeat, parse, parseAll}
 use Rattle.rules.specs.Record.{count}
 use Rattle.rules.proofs.Forests.{count-behind, width-behind}
 use Rattle.rules.proofs.Run.{wide-got, never}
@@ -54,10 +54,10 @@ pub data Fits (h : Test) : (n y : ℕ) → Rule → (gn gy kn ky : ℕ) → Type
       → Fits h n y t gn gy kn ky
       → Fits h n z u gn gy kn ky
       → Fits h n y (when f t u) gn gy kn ky
-  f-starts : {n y gn gy kn ky : ℕ} {w : List ℕ} {t u : Rule}
+  f-look : {n y gn gy kn ky : ℕ} {w : Look} {t u : Rule}
       → Fits h n y t gn gy kn ky
       → Fits h n y u gn gy kn ky
-      → Fits h n y (starts w t u) gn gy kn ky
+      → Fits h n y (look w t u) gn gy kn ky
   f-after : {n y gn gy kn ky : ℕ} {f : Test} {r t u : Rule}
       → Fits h n y t gn gy kn ky
       → Fits h n y u gn gy kn ky
@@ -333,8 +333,8 @@ module _ (h : Test) (s : List ℕ) (F : ℕ) where
   pays (f-calm {f = f} {t} {u} i x z) e at a o p k =
       calm (h (byteAt s at)) (f (byteAt s at)) (parse s F t e at) (parse s F u e at) (i (byteAt s at)) k
       (λ q. pays x e at a o p q) (λ q. pays z e at a o p q)
-  pays (f-starts {w = w} {t} {u} x z) e at a o p k =
-      pick-case (opens s w at) (parse s F t e at) (parse s F u e at) k (λ q. pays x e at a o p q)
+  pays (f-look {w = w} {t} {u} x z) e at a o p k =
+      pick-case (stands s w at) (parse s F t e at) (parse s F u e at) k (λ q. pays x e at a o p q)
       (λ q. pays z e at a o p q)
   pays (f-after {f = f} {r} {t} {u} x z) e at a o p k =
       let v = then-got (parse s F r e at) _ k in

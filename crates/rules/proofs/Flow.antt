@@ -4,13 +4,13 @@ use mathlib.Core.Path.{_≡_, refl}
 use mathlib.Core.Bool.{Bool, true, false}
 use mathlib.Core.List.{List, [], _∷_}
 use Prim.Native.Nat.{ℕ}
-use lib.Dec.{eqb}
+use lib.Dec.{ltb, eqb}
 use Rattle.rules.specs.Forest.{Label, node, content, Forest}
-use Rattle.rules.specs.Rule.{Place, Test, Verdict, fine, differ, Rule, done, stop, step, refuse, when, starts}
-use Rattle.rules.specs.Rule.{after, seq, many, wrap, said, marked, paired}
+use Rattle.rules.specs.Rule.{Place, Test, Verdict, fine, differ, Look, bytes, char, Rule, done, stop, step}
+use Rattle.rules.specs.Rule.{refuse, when, look, after, seq, many, wrap, said, marked, paired}
 use Rattle.rules.specs.Parse.{got, pick, parse}
 use Rattle.rules.proofs.Run.{goes, never}
-use Rattle.rules.proofs.Agree.{Lacks}
+use Rattle.rules.proofs.Agree.{Without, Lacks}
 use Rattle.rules.proofs.Moves.{moves}
 use Rattle.rules.proofs.Spots.{Spot, fill}
 
@@ -45,7 +45,7 @@ clear stop = true
 clear step = true
 clear (refuse n w) = true
 clear (when f t u) = pick (clear t) (clear u) false
-clear (starts w t u) = pick (clear t) (clear u) false
+clear (look w t u) = pick (clear t) (clear u) false
 clear (after r f t u) = pick (clear t) (clear u) false
 clear (seq t u) = pick (clear t) (clear u) false
 clear (many t) = clear t
@@ -61,7 +61,7 @@ advances stop = true
 advances step = true
 advances (refuse n w) = true
 advances (when f t u) = pick (advances t) (advances u) false
-advances (starts w t u) = pick (advances t) (advances u) false
+advances (look w t u) = pick (advances t) (advances u) false
 advances (after r f t u) = pick (advances t) (advances u) false
 advances (seq t u) = pick (advances t) true (advances u)
 advances (many t) = false
@@ -75,19 +75,29 @@ unfoldable pub lacking : Test → List ℕ → Bool
 lacking q [] = true
 lacking q (b ∷ w) = pick (q b) false (lacking q w)
 
--- What the test computes is what the law of locality asks for.
-pub lacking-lacks : (q : Test) (w : List ℕ) → lacking q w ≡ true → Lacks q w
+lacking-without : (q : Test) (w : List ℕ) → lacking q w ≡ true → Without q w
 unfolding lacking
-lacking-lacks q [] h = tt
-lacking-lacks q (b ∷ w) h = go (q b) refl h (λ k. lacking-lacks q w k)
+lacking-without q [] h = tt
+lacking-without q (b ∷ w) h = go (q b) refl h (λ k. lacking-without q w k)
   where
     go : (c : Bool)
         → q b ≡ c
         → pick c false (lacking q w) ≡ true
-        → (lacking q w ≡ true → Lacks q w)
-        → (q b ≡ false) × Lacks q w
+        → (lacking q w ≡ true → Without q w)
+        → (q b ≡ false) × Without q w
     go true e k ih = never k
     go false e k ih = (e, ih k)
+
+-- What is asked does not go on behind a byte that passes the test: by computing, of some bytes; of a character, since
+-- all that pass are characters of their own.
+abbrev pub Short : Test → Look → Type 0
+Short q (bytes w) = lacking q w ≡ true
+Short q (char f) = (b : ℕ) → q b ≡ true → ltb b 0x80 ≡ true
+
+-- It is what the law of locality asks for.
+pub short-lacks : (q : Test) (w : Look) → Short q w → Lacks q w
+short-lacks q (bytes w) h = lacking-without q w h
+short-lacks q (char f) h = h
 
 -- No content's label.
 abbrev pub IsNode : Label → Type 0
@@ -113,8 +123,8 @@ pub record Fair (v : Forest → Forest → Verdict) : Type 0 where
 abbrev pub Fitting : (R : Label → Forest → Type 0) (l : Forest → Label) (t : Rule) → Type 0
 Fitting R l t = (s : List ℕ) (F e at : ℕ) (a : Bool) (o : Forest) (p : ℕ) → parse s F t e at ≡ got a o p → R (l o) o
 
--- C: what reads a content with that depth left inside it. Q: the bytes that close; no `starts` asks for one of them. R:
--- what holds of every node.
+-- C: what reads a content with that depth left inside it. Q: the bytes that close; no `look` goes on behind one of them.
+-- R: what holds of every node.
 -- From a mode, a rule, to a mode where it goes on, and to a mode where it stops.
 pub data Flow (C : ℕ → Rule) (Q : Test) (R : Label → Forest → Type 0) : Mode → Rule → Mode → Mode → Type 0 where
   f-weak : {i i′ g g′ k k′ : Mode} {t : Rule} → i ⊑ i′ → g ⊑ g′ → k ⊑ k′ → Flow C Q R i′ t g k → Flow C Q R i t g′ k′
@@ -131,12 +141,12 @@ pub data Flow (C : ℕ → Rule) (Q : Test) (R : Label → Forest → Type 0) : 
       → ((b : ℕ) → f b ≡ true → Q b ≡ true)
       → Flow C Q R near u shut k
       → Flow C Q R near (when f step u) shut k
-  f-starts : {i g k : Mode} {w : List ℕ} {t u : Rule}
+  f-look : {i g k : Mode} {w : Look} {t u : Rule}
       → Seen i
-      → lacking Q w ≡ true
+      → Short Q w
       → Flow C Q R i t g k
       → Flow C Q R i u g k
-      → Flow C Q R i (starts w t u) g k
+      → Flow C Q R i (look w t u) g k
   f-after : {g k : Mode} {f : Test} {r t u : Rule}
       → goes r ≡ true
       → Flow C Q R near r near near

@@ -7,12 +7,12 @@ use lib.ListN.{length}
 use lib.Dec.{ltb}
 use Rattle.rules.specs.Forest.{Label, node, content, Forest, nil, byte, group, _⋈_}
 use Rattle.rules.specs.Rule.{Test, Rule, step}
-use Rattle.rules.specs.Parse.{Answer, got, trouble, pick, byteAt, opens, repeat, parse}
+use Rattle.rules.specs.Parse.{Answer, got, trouble, pick, byteAt, stands, repeat, parse}
 use Rattle.rules.proofs.Got.{trouble-got, refusal-got, got-same, then-got, pick-case, SeqOut, two, one, seq-read}
 use Rattle.rules.proofs.Got.{SaidOut, so, otherwise, stopped, said-read, wrap-read, PairOut, lone, full}
 use Rattle.rules.proofs.Got.{pair-out}
 use Rattle.rules.proofs.Ends.{Turn, last, goon, turn}
-use Rattle.rules.proofs.Flow.{Mode, Flow, f-weak, f-done, f-stop, f-step, f-refuse, f-when, f-expect, f-starts}
+use Rattle.rules.proofs.Flow.{Mode, Flow, f-weak, f-done, f-stop, f-step, f-refuse, f-when, f-expect, f-look}
 use Rattle.rules.proofs.Flow.{f-after, f-seq, f-many, f-wrap, f-said, f-marked, f-paired, f-pass, f-last}
 
 -- Every node has the property, with what is inside it.
@@ -77,8 +77,8 @@ module _ (R : Label → Forest → Type 0) where
     formed (f-expect {f = f} {u} q x) e at a o p h =
         pick-case (f (byteAt s at)) (parse s F step e at) (parse s F u e at) h (λ z. formed-step e at z)
         (λ z. formed x e at a o p z)
-    formed (f-starts {w = w} {t} {u} sn pw x y) e at a o p h =
-        pick-case (opens s w at) (parse s F t e at) (parse s F u e at) h (λ z. formed x e at a o p z)
+    formed (f-look {w = w} {t} {u} sn pw x y) e at a o p h =
+        pick-case (stands s w at) (parse s F t e at) (parse s F u e at) h (λ z. formed x e at a o p z)
         (λ z. formed y e at a o p z)
     formed (f-after {f = f} {r} {t} {u} gr fr x y) e at a o p h =
         let v = then-got (parse s F r e at) _ h in

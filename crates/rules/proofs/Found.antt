@@ -8,7 +8,7 @@ use lib.ListN.{length}
 use lib.Dec.{ltb}
 use Rattle.rules.specs.Forest.{Label, node, content, Forest, nil, byte, group, _⋈_, width}
 use Rattle.rules.specs.Rule.{Test, Verdict, Rule, step, seq}
-use Rattle.rules.specs.Parse.{Answer, got, trouble, pick, byteAt, opens, repeat, parse}
+use Rattle.rules.specs.Parse.{Answer, got, trouble, pick, byteAt, stands, repeat, parse}
 use Rattle.rules.proofs.Run.{goes, both, on, got-goes, goes-repeat, wide-got}
 use Rattle.rules.proofs.Got.{trouble-got, false-true, refusal-got, got-same, then-got, pick-case, going, SeqOut}
 use Rattle.rules.proofs.Got.{two, one, seq-read, SaidOut, so, otherwise, stopped, said-read, wrap-read, PairOut}
@@ -18,7 +18,7 @@ use Rattle.rules.proofs.Spots.{Spot, arrived, under, past, skip, bytesB
 use Rattle.rules.proofs.Spots.{no-spot-nil}
 use Rattle.rules.proofs.Flow.{Mode, shut, tight, near, pend, _⊑_, same, shut-tight, shut-near, shut-pend}
 use Rattle.rules.proofs.Flow.{tight-near, tight-pend, near-pend, clear, IsNode, Flow, f-weak, f-done, f-stop}
-use Rattle.rules.proofs.Flow.{f-step, f-refuse, f-when, f-expect, f-starts, f-after, f-seq, f-many, f-wrap}
+use Rattle.rules.proofs.Flow.{f-step, f-refuse, f-when, f-expect, f-look, f-after, f-seq, f-many, f-wrap}
 use Rattle.rules.proofs.Flow.{f-said, f-marked, f-paired, f-pass, f-last}
 use Rattle.rules.proofs.Advance.{advance}
 use Rattle.rules.proofs.Reach.{Bound, bound-weak, step-got, reach}
@@ -94,8 +94,8 @@ module _ (C : ℕ → Rule) (Q : Test) (R : Label → Forest → Type 0) (s : Li
           let y = step-got C Q R s F e at z in
           last-is shut k (sym (y .0)) refl (at, sym (y .1), q (byteAt s at) c)
       by false c z ih = ih z
-  closes (f-starts {w = w} {t} {u} sn pw x y) e at a o p h l =
-      pick-case (opens s w at) (parse s F t e at) (parse s F u e at) h (λ z. closes x e at a o p z l)
+  closes (f-look {w = w} {t} {u} sn pw x y) e at a o p h l =
+      pick-case (stands s w at) (parse s F t e at) (parse s F u e at) h (λ z. closes x e at a o p z l)
       (λ z. closes y e at a o p z l)
   closes (f-after {f = f} {r} {t} {u} gr fr x y) e at a o p h l =
       let v = then-got (parse s F r e at) _ h in
@@ -216,9 +216,9 @@ module _ (C : ℕ → Rule) (Q : Test) (R : Label → Forest → Type 0) (s : Li
     none (f-expect {f = f} {u} q x) c e at a o p h ω =
         pick-case (f (byteAt s at)) (parse s F step e at) (parse s F u e at) h (λ z. none-step e at z ω)
         (λ z. none x c e at a o p z ω)
-    none (f-starts {w = w} {t} {u} sn pw x y) c e at a o p h ω =
+    none (f-look {w = w} {t} {u} sn pw x y) c e at a o p h ω =
         let b = both (clear t) (clear u) c in
-        pick-case (opens s w at) (parse s F t e at) (parse s F u e at) h (λ z. none x (b .0) e at a o p z ω)
+        pick-case (stands s w at) (parse s F t e at) (parse s F u e at) h (λ z. none x (b .0) e at a o p z ω)
         (λ z. none y (b .1) e at a o p z ω)
     none (f-after {f = f} {r} {t} {u} gr fr x y) c e at a o p h ω =
         let b = both (clear t) (clear u) c in
@@ -400,8 +400,8 @@ module _ (C : ℕ → Rule) (Q : Test) (R : Label → Forest → Type 0) (s : Li
     found (f-expect {f = f} {u} q x) e at a o p h l =
         pick-case (f (byteAt s at)) (parse s F step e at) (parse s F u e at) h
         (λ z. all-none near at (none-step e at z)) (λ z. found x e at a o p z l)
-    found (f-starts {w = w} {t} {u} sn pw x y) e at a o p h l =
-        pick-case (opens s w at) (parse s F t e at) (parse s F u e at) h (λ z. found x e at a o p z l)
+    found (f-look {w = w} {t} {u} sn pw x y) e at a o p h l =
+        pick-case (stands s w at) (parse s F t e at) (parse s F u e at) h (λ z. found x e at a o p z l)
         (λ z. found y e at a o p z l)
     found (f-after {f = f} {r} {t} {u} gr fr x y) e at a o p h l =
         let v = then-got (parse s F r e at) _ h in

@@ -9,7 +9,7 @@ use native.Mathlib.Nat.{le-refl}
 use lib.ListN.{length}
 use Rattle.rules.specs.Forest.{Label, node, content, Forest, nil, group, _⋈_, width}
 use Rattle.rules.specs.Rule.{Test, Verdict, fine, Rule, step, seq, many, wrap, said, paired}
-use Rattle.rules.specs.Parse.{Answer, got, pick, andThen, behind, byteAt, opens, repeat, parse, parsed}
+use Rattle.rules.specs.Parse.{Answer, got, pick, andThen, behind, byteAt, stands, repeat, parse, parsed}
 use Rattle.rules.proofs.Run.{wide-got, wide, Wide, wide-repeat, got-goes, goes-repeat}
 use Rattle.rules.proofs.Got.{trouble-got, refusal-got, got-same, then-got, going, SeqOut, two, one, seq-read}
 use Rattle.rules.proofs.Got.{SaidOut, so, otherwise, stopped, said-read, wrap-read, PairOut, lone, full}
@@ -20,8 +20,8 @@ use Rattle.rules.proofs.Ends.{refuel}
 use Rattle.rules.proofs.Agree.{Lacks, before, moved-along}
 use Rattle.rules.proofs.Spots.{Spot, arrived, under, past, fill, bytesBefore, Side, left, right, side}
 use Rattle.rules.proofs.Spots.{no-spot-nil, fits}
-use Rattle.rules.proofs.Flow.{Mode, lacking-lacks, IsNode, Steady, Fair, Flow, f-weak, f-done, f-stop, f-step}
-use Rattle.rules.proofs.Flow.{f-refuse, f-when, f-expect, f-starts, f-after, f-seq, f-many, f-wrap, f-said}
+use Rattle.rules.proofs.Flow.{Mode, short-lacks, IsNode, Steady, Fair, Flow, f-weak, f-done, f-stop, f-step}
+use Rattle.rules.proofs.Flow.{f-refuse, f-when, f-expect, f-look, f-after, f-seq, f-many, f-wrap, f-said}
 use Rattle.rules.proofs.Flow.{f-marked, f-paired, f-pass, f-last}
 use Rattle.rules.proofs.Reach.{Bound, bound-above, reach}
 use Rattle.rules.proofs.Found.{Last, last-weak, closes, none, none-step, all-loop, found}
@@ -460,10 +460,10 @@ module _ (C : ℕ → Rule) (Q : Test) (R : Label → Forest → Type 0) (s s′
       let B = there (f-expect {f = f} n x) e at a o q h l ω sp in
       fork-refill (f (byteAt s at)) (f (byteAt s′ at)) step u e e′ at a o q ω (ap f (ante at (B .1))) h
       (λ z. absurd (none-step C Q R s (suc (length s)) d c₀ e at z ω)) (λ z. refill x e e′ at a o q le l z ω sp)
-  refill (f-starts {w = w} {t} {u} sn pw x y) e e′ at a o q le l h = λ ω sp.
-      let B = there (f-starts {w = w} sn pw x y) e at a o q h l ω sp in
-      fork-refill (opens s w at) (opens s′ w at) t u e e′ at a o q ω
-      (before s s′ p ante (omega arith) pl′ Q closed at at at refl (le-refl _) (B .1) .2 w (lacking-lacks Q w pw)) h
+  refill (f-look {w = w} {t} {u} sn pw x y) e e′ at a o q le l h = λ ω sp.
+      let B = there (f-look {w = w} sn pw x y) e at a o q h l ω sp in
+      fork-refill (stands s w at) (stands s′ w at) t u e e′ at a o q ω
+      (before s s′ p ante (omega arith) pl′ Q closed at at at refl (le-refl _) (B .1) .2 w (short-lacks Q w pw)) h
       (λ z. refill x e e′ at a o q le l z ω sp) (λ z. refill y e e′ at a o q le l z ω sp)
   refill (f-after {f = f} {r} {t} {u} gr fr x y) e e′ at a o q le l h = λ ω sp.
       let B = there (f-after {f = f} gr fr x y) e at a o q h l ω sp in

@@ -9,9 +9,9 @@ use lib.ListN.{length}
 use lib.Dec.{ltb}
 use borrow.Author.Tests.{ltb-true, ltb-false, lt-ltb, le-ltb}
 use Rattle.rules.specs.Forest.{content, Forest, nil, byte, group, _⋈_}
-use Rattle.rules.specs.Rule.{Place, here, mark, fromMark, thisByte, Verdict, fine, differ, Rule, done, stop, step}
-use Rattle.rules.specs.Rule.{refuse, when, starts, after, seq, many, wrap, said, marked, paired}
-use Rattle.rules.specs.Parse.{Answer, got, trouble, pick, andThen, behind, byteAt, opens, refusal, judged, repeat}
+use Rattle.rules.specs.Rule.{Place, here, mark, fromMark, thisByte, Verdict, fine, differ, Look, Rule, done, stop}
+use Rattle.rules.specs.Rule.{step, refuse, when, look, after, seq, many, wrap, said, marked, paired}
+use Rattle.rules.specs.Parse.{Answer, got, trouble, pick, andThen, behind, byteAt, stands, refusal, judged, repeat}
 use Rattle.rules.specs.Parse.{parse}
 pub use Rattle.rules.proofs.Run.{Then, Either}
 use Rattle.rules.proofs.Run.{then-if, then-then, then-any, then-behind, then-refusal, then-judged}
@@ -51,7 +51,7 @@ up s F stop e at = le-refl _
 up s F step e at = then-if (From at) (ltb at (length s)) _ _ (omega arith) tt
 up s F (refuse n w) e at = then-refusal (From at) n w e at
 up s F (when f t u) e at = then-if (From at) (f (byteAt s at)) _ _ (up s F t e at) (up s F u e at)
-up s F (starts w t u) e at = then-if (From at) (opens s w at) _ _ (up s F t e at) (up s F u e at)
+up s F (look w t u) e at = then-if (From at) (stands s w at) _ _ (up s F t e at) (up s F u e at)
 up s F (after r f t u) e at =
     then-any (From at) (parse s F r e at) _
     (λ a o p. then-if (From at) (f (byteAt s p)) _ _ (up s F t e at) (up s F u e at))
@@ -77,9 +77,8 @@ up-got s F t e at h = subst (Up at) h (up s F t e at)
 
 -- ---- how far a reading has looked: at no place from hi on
 
--- P: the runs of bytes that `starts` may ask for. To look at a place is to see its byte, and
--- which of these stand there.
-module _ (P : List ℕ → Type 0) (s : List ℕ) (hi : ℕ) where
+-- P: what a `look` may ask. To look at a place is to see its byte, and which of these hold there.
+module _ (P : Look → Type 0) (s : List ℕ) (hi : ℕ) where
   -- The turns of a loop, each of which looks so.
   unfoldable pub LooksLoop : (ℕ → Type 0) → (ℕ → Answer) → ℕ → ℕ → Type 0
   LooksLoop L body zero at = Unit {0}
@@ -93,7 +92,7 @@ module _ (P : List ℕ → Type 0) (s : List ℕ) (hi : ℕ) where
   Looks F step e at = at < hi
   Looks F (refuse n w) e at = Unit {0}
   Looks F (when f t u) e at = (at < hi) × Either (f (byteAt s at)) (Looks F t e at) (Looks F u e at)
-  Looks F (starts w t u) e at = (at < hi) × P w × Either (opens s w at) (Looks F t e at) (Looks F u e at)
+  Looks F (look w t u) e at = (at < hi) × P w × Either (stands s w at) (Looks F t e at) (Looks F u e at)
   Looks F (after r f t u) e at =
       Looks F r e at
       × Then (parse s F r e at) (λ a o p. (p < hi) × Either (f (byteAt s p)) (Looks F t e at) (Looks F u e at))
@@ -116,15 +115,15 @@ ltb-twin k k′ a b a′ b′ p q = go (ltb a b) refl
     go true e = let h : a < b = ltb-true a b e in e ∙ sym (lt-ltb a′ b′ (omega arith))
     go false e = let h : b ≤ a = ltb-false a b e in e ∙ sym (le-ltb a′ b′ (omega arith))
 
--- What two inputs show at two places: the byte, whether the input goes on, and which runs of bytes stand there.
-abbrev pub Seen : (P : List ℕ → Type 0) (s s′ : List ℕ) (p p′ : ℕ) → Type 0
+-- What two inputs show at two places: the byte, whether the input goes on, and what of P holds there.
+abbrev pub Seen : (P : Look → Type 0) (s s′ : List ℕ) (p p′ : ℕ) → Type 0
 Seen P s s′ p p′ =
     (byteAt s p ≡ byteAt s′ p′) × (ltb p (length s) ≡ ltb p′ (length s′))
-    × ((w : List ℕ) → P w → opens s w p ≡ opens s′ w p′)
+    × ((w : Look) → P w → stands s w p ≡ stands s′ w p′)
 
 -- Two inputs; the place p of the first is the place p′ of the second where p + k′ ≡ p′ + k.
 -- The same stands in both from lo up to hi.
-module _ (P : List ℕ → Type 0) (s s′ : List ℕ) (k k′ lo hi lim : ℕ) (hl : hi ≤ lim)
+module _ (P : Look → Type 0) (s s′ : List ℕ) (k k′ lo hi lim : ℕ) (hl : hi ≤ lim)
     (agree : (p p′ : ℕ) → p + k′ ≡ p′ + k → lo ≤ p → p < hi → Seen P s s′ p p′) where
   -- what the second answers, if the first reads something that ends before lim: the same, moved
   abbrev pub Follow : Answer → Answer → Type 0
@@ -264,8 +263,8 @@ module _ (P : List ℕ → Type 0) (s s′ : List ℕ) (k k′ lo hi lim : ℕ) 
         (parse s′ F′ u e′ at′) (ap f (agree at at′ tw lw (l .0) .0)) (Looks P s hi F t e at) (Looks P s hi F u e at)
         (l .1)
         (λ m. local t e e′ at at′ le tw lw m) (λ m. local u e e′ at at′ le tw lw m)
-    local (starts w t u) e e′ at at′ le tw lw l =
-        follow-if (opens s w at) (opens s′ w at′) (parse s F t e at) (parse s F u e at) (parse s′ F′ t e′ at′) (parse s′
+    local (look w t u) e e′ at at′ le tw lw l =
+        follow-if (stands s w at) (stands s′ w at′) (parse s F t e at) (parse s F u e at) (parse s′ F′ t e′ at′) (parse s′
         F′ u e′ at′) (agree at at′ tw lw (l .0) .2 w (l .1)) (Looks P s hi F t e at) (Looks P s hi F u e at) (l .2)
         (λ m. local t e e′ at at′ le tw lw m) (λ m. local u e e′ at at′ le tw lw m)
     local (after r f t u) e e′ at at′ le tw lw l =

@@ -6,9 +6,9 @@ use Prim.Native.Nat.{ℕ, zero, suc, _+_}
 use lib.ListN.{length}
 use lib.Dec.{ltb}
 use Rattle.rules.specs.Forest.{content, Forest, nil, byte, group, _⋈_}
-use Rattle.rules.specs.Rule.{Rule, done, stop, step, refuse, when, starts, after, seq, many, wrap, said, marked}
+use Rattle.rules.specs.Rule.{Rule, done, stop, step, refuse, when, look, after, seq, many, wrap, said, marked}
 use Rattle.rules.specs.Rule.{paired}
-use Rattle.rules.specs.Parse.{Answer, got, trouble, pick, andThen, behind, byteAt, opens, judged, repeat, parse}
+use Rattle.rules.specs.Parse.{Answer, got, trouble, pick, andThen, behind, byteAt, stands, judged, repeat, parse}
 use Rattle.rules.proofs.Run.{Then, then-refusal}
 
 -- What the first answer got, the second got.
@@ -58,7 +58,7 @@ module _ (s : List ℕ) (F : ℕ) where
       like-same (pick (ltb at (length s)) (got true (byte (byteAt s at) nil) (at + 1)) (trouble 4 at at 0 0))
   like-marks (refuse n w) e e′ at = then-refusal _ n w e at
   like-marks (when f t u) e e′ at = like-if (f (byteAt s at)) _ _ _ _ (like-marks t e e′ at) (like-marks u e e′ at)
-  like-marks (starts w t u) e e′ at = like-if (opens s w at) _ _ _ _ (like-marks t e e′ at) (like-marks u e e′ at)
+  like-marks (look w t u) e e′ at = like-if (stands s w at) _ _ _ _ (like-marks t e e′ at) (like-marks u e e′ at)
   like-marks (after r f t u) e e′ at = like-then (parse s F r e at) (parse s F r e′ at) _ _ (like-marks r e e′ at)
       (λ a o p. like-if (f (byteAt s p)) _ _ _ _ (like-marks t e e′ at) (like-marks u e e′ at))
   like-marks (seq t u) e e′ at = like-then (parse s F t e at) (parse s F t e′ at) _ _ (like-marks t e e′ at)

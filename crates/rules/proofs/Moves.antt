@@ -7,9 +7,9 @@ use native.Mathlib.Omega.{arith}
 use lib.ListN.{length}
 use lib.Dec.{ltb}
 use Rattle.rules.specs.Forest.{Forest}
-use Rattle.rules.specs.Rule.{Rule, done, stop, step, refuse, when, starts, after, seq, many, wrap, said, marked}
+use Rattle.rules.specs.Rule.{Rule, done, stop, step, refuse, when, look, after, seq, many, wrap, said, marked}
 use Rattle.rules.specs.Rule.{paired}
-use Rattle.rules.specs.Parse.{Answer, got, trouble, pick, andThen, behind, byteAt, opens, parse}
+use Rattle.rules.specs.Parse.{Answer, got, trouble, pick, andThen, behind, byteAt, stands, parse}
 use Rattle.rules.proofs.Run.{Then, then-if, then-then, then-any, then-behind, then-refusal, then-judged, both}
 use Rattle.rules.proofs.Run.{never, goes, on, Goes}
 use Rattle.rules.proofs.Local.{From, Up, up}
@@ -21,7 +21,7 @@ moves stop = false
 moves step = true
 moves (refuse n w) = true
 moves (when f t u) = pick (moves t) (moves u) false
-moves (starts w t u) = pick (moves t) (moves u) false
+moves (look w t u) = pick (moves t) (moves u) false
 moves (after r f t u) = pick (moves t) (moves u) false
 moves (seq t u) = pick (moves t) true (pick (goes t) (moves u) false)
 moves (many t) = false
@@ -78,9 +78,9 @@ passes s F (refuse n w) h e at = then-refusal (Beyond at) n w e at
 passes s F (when f t u) h e at =
     let g = both (moves t) (moves u) h in
     then-if (Beyond at) (f (byteAt s at)) _ _ (passes s F t (g .0) e at) (passes s F u (g .1) e at)
-passes s F (starts w t u) h e at =
+passes s F (look w t u) h e at =
     let g = both (moves t) (moves u) h in
-    then-if (Beyond at) (opens s w at) _ _ (passes s F t (g .0) e at) (passes s F u (g .1) e at)
+    then-if (Beyond at) (stands s w at) _ _ (passes s F t (g .0) e at) (passes s F u (g .1) e at)
 passes s F (after r f t u) h e at = let g = both (moves t) (moves u) h in
     then-any (Beyond at) (parse s F r e at) (λ a o p. pick (f (byteAt s p)) (parse s F t e at) (parse s F u e at))
     (λ a o p. then-if (Beyond at) (f (byteAt s p)) _ _ (passes s F t (g .0) e at) (passes s F u (g .1) e at))

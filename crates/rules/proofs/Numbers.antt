@@ -6,9 +6,9 @@ use Prim.Native.Nat.{ℕ, zero, suc, _+_}
 use lib.ListN.{length}
 use lib.Dec.{ltb}
 use Rattle.rules.specs.Forest.{Forest, group, content, _⋈_}
-use Rattle.rules.specs.Rule.{Verdict, fine, differ, Rule, done, stop, step, refuse, when, starts, after, seq}
+use Rattle.rules.specs.Rule.{Verdict, fine, differ, Rule, done, stop, step, refuse, when, look, after, seq}
 use Rattle.rules.specs.Rule.{many, wrap, said, marked, paired}
-use Rattle.rules.specs.Parse.{Answer, got, trouble, pick, behind, byteAt, opens, endOfInput, stuck, judged}
+use Rattle.rules.specs.Parse.{Answer, got, trouble, pick, behind, byteAt, stands, endOfInput, stuck, judged}
 use Rattle.rules.specs.Parse.{repeat, parse, parseAll}
 use Rattle.rules.proofs.Run.{both, never}
 use Rattle.rules.proofs.Stuck.{Refuses, refuses-if, refuses-then, refuses-behind, refuses-refusal}
@@ -27,7 +27,7 @@ module _ (ok : ℕ → Bool) where
   NumberedBy step = Unit {0}
   NumberedBy (refuse n w) = ok n ≡ true
   NumberedBy (when f t u) = NumberedBy t × NumberedBy u
-  NumberedBy (starts w t u) = NumberedBy t × NumberedBy u
+  NumberedBy (look w t u) = NumberedBy t × NumberedBy u
   NumberedBy (after r f t u) = NumberedBy r × NumberedBy t × NumberedBy u
   NumberedBy (seq t u) = NumberedBy t × NumberedBy u
   NumberedBy (many t) = NumberedBy t
@@ -43,7 +43,7 @@ module _ (ok : ℕ → Bool) where
   numbered step = true
   numbered (refuse n w) = ok n
   numbered (when f t u) = pick (numbered t) (numbered u) false
-  numbered (starts w t u) = pick (numbered t) (numbered u) false
+  numbered (look w t u) = pick (numbered t) (numbered u) false
   numbered (after r f t u) = pick (numbered r) (pick (numbered t) (numbered u) false) false
   numbered (seq t u) = pick (numbered t) (numbered u) false
   numbered (many t) = numbered t
@@ -60,7 +60,7 @@ module _ (ok : ℕ → Bool) where
   computed step h = tt
   computed (refuse n w) h = h
   computed (when f t u) h = let g = both (numbered t) (numbered u) h in (computed t (g .0), computed u (g .1))
-  computed (starts w t u) h = let g = both (numbered t) (numbered u) h in (computed t (g .0), computed u (g .1))
+  computed (look w t u) h = let g = both (numbered t) (numbered u) h in (computed t (g .0), computed u (g .1))
   computed (after r f t u) h =
       let g = both (numbered r) (pick (numbered t) (numbered u) false) h in
       let g′ = both (numbered t) (numbered u) (g .1) in
@@ -101,7 +101,7 @@ module _ (ok : ℕ → Bool) where
     allowed step n e at = refuses-if N (ltb at (length s)) _ _ tt end-ok
     allowed (refuse m w) n e at = refuses-refusal N m w e at n
     allowed (when f t u) n e at = refuses-if N (f (byteAt s at)) _ _ (allowed t (n .0) e at) (allowed u (n .1) e at)
-    allowed (starts w t u) n e at = refuses-if N (opens s w at) _ _ (allowed t (n .0) e at) (allowed u (n .1) e at)
+    allowed (look w t u) n e at = refuses-if N (stands s w at) _ _ (allowed t (n .0) e at) (allowed u (n .1) e at)
     allowed (after r f t u) n e at = refuses-then N (parse s F r e at) _ (allowed r (n .0) e at)
         (λ a o p h. refuses-if N (f (byteAt s p)) _ _ (allowed t (n .1) e at) (allowed u (n .2) e at))
     allowed (seq t u) n e at = refuses-then N (parse s F t e at) _ (allowed t (n .0) e at)

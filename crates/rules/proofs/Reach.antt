@@ -8,7 +8,7 @@ use lib.ListN.{length}
 use lib.Dec.{ltb}
 use Rattle.rules.specs.Forest.{Label, Forest, nil, byte}
 use Rattle.rules.specs.Rule.{Test, Verdict, Rule, step, seq}
-use Rattle.rules.specs.Parse.{Answer, got, trouble, pick, behind, byteAt, opens, repeat, parse}
+use Rattle.rules.specs.Parse.{Answer, got, trouble, pick, behind, byteAt, stands, repeat, parse}
 use Rattle.rules.proofs.Run.{goes, Then, Either, on, got-goes, goes-repeat}
 use Rattle.rules.proofs.Got.{trouble-got, false-true, refusal-got, got-same, then-got, behind-got, then-is}
 use Rattle.rules.proofs.Got.{going, SeqOut, two, one, seq-read, SaidOut, so, otherwise, stopped, said-read}
@@ -16,9 +16,9 @@ use Rattle.rules.proofs.Got.{wrap-read, PairOut, lone, full, pair-out}
 use Rattle.rules.proofs.Mark.{any-mark}
 use Rattle.rules.proofs.Local.{LooksLoop, Looks}
 use Rattle.rules.proofs.Agree.{Lacks}
-use Rattle.rules.proofs.Flow.{lacking-lacks, Mode, shut, tight, near, pend, _⊑_, same, shut-tight, shut-near}
+use Rattle.rules.proofs.Flow.{short-lacks, Mode, shut, tight, near, pend, _⊑_, same, shut-tight, shut-near}
 use Rattle.rules.proofs.Flow.{shut-pend, tight-near, tight-pend, near-pend, Seen, seen-near, seen-pend, Flow}
-use Rattle.rules.proofs.Flow.{f-weak, f-done, f-stop, f-step, f-refuse, f-when, f-expect, f-starts, f-after}
+use Rattle.rules.proofs.Flow.{f-weak, f-done, f-stop, f-step, f-refuse, f-when, f-expect, f-look, f-after}
 use Rattle.rules.proofs.Flow.{f-seq, f-many, f-wrap, f-said, f-marked, f-paired, f-pass, f-last}
 
 module _ (C : ℕ → Rule) (Q : Test) (R : Label → Forest → Type 0) (s : List ℕ) (F : ℕ) where
@@ -276,10 +276,10 @@ module _ (C : ℕ → Rule) (Q : Test) (R : Label → Forest → Type 0) (s : Li
       let r : at < hi = omega arith in (r, r))
       (λ z. reach x e at a o p z hi b) in
       ((w .1, w .0), w .1)
-  reach (f-starts {i} {g} {k} {w} {t} {u} sn pw x y) e at a o p h hi b =
-      let z = fork (opens s w at) (parse s F t e at) (parse s F u e at) (Looks (Lacks Q) s hi F t e at)
+  reach (f-look {i} {g} {k} {w} {t} {u} sn pw x y) e at a o p h hi b =
+      let z = fork (stands s w at) (parse s F t e at) (parse s F u e at) (Looks (Lacks Q) s hi F t e at)
       (Looks (Lacks Q) s hi F u e at) h (λ z. reach x e at a o p z hi b) (λ z. reach y e at a o p z hi b) in
-      ((bound-seen at hi sn (z .1), lacking-lacks Q w pw, z .0), z .1)
+      ((bound-seen at hi sn (z .1), short-lacks Q w pw, z .0), z .1)
   reach (f-after {g} {k} {f} {r} {t} {u} gr fr x y) e at a o p h hi b =
       let v = then-got (parse s F r e at) _ h in
       let er = going s F r e at gr (v .3) in

@@ -9,8 +9,8 @@ use lib.Dec.{ltb}
 use borrow.Author.Tests.{lt-ltb}
 use Rattle.rules.specs.Forest.{content, Forest, nil, byte, group, _⋈_, width}
 use Rattle.rules.specs.Rule.{Place, here, mark, fromMark, thisByte, Verdict, fine, differ, Rule, done, stop, step}
-use Rattle.rules.specs.Rule.{refuse, when, starts, after, seq, many, wrap, said, marked, paired}
-use Rattle.rules.specs.Parse.{Answer, got, trouble, pick, andThen, behind, byteAt, opens, refusal, judged, repeat}
+use Rattle.rules.specs.Rule.{refuse, when, look, after, seq, many, wrap, said, marked, paired}
+use Rattle.rules.specs.Parse.{Answer, got, trouble, pick, andThen, behind, byteAt, stands, refusal, judged, repeat}
 use Rattle.rules.specs.Parse.{parse}
 use Rattle.rules.proofs.Forests.{behind-nil, behind-assoc, width-behind}
 
@@ -99,7 +99,7 @@ goes stop = false
 goes step = true
 goes (refuse n w) = true
 goes (when f t u) = pick (goes t) (goes u) false
-goes (starts w t u) = pick (goes t) (goes u) false
+goes (look w t u) = pick (goes t) (goes u) false
 goes (after r f t u) = pick (goes t) (goes u) false
 goes (seq t u) = pick (goes t) (goes u) false
 goes (many t) = true
@@ -145,9 +145,9 @@ on s F (refuse n w) h e at = then-refusal GoesOn n w e at
 on s F (when f t u) h e at =
     let g = both (goes t) (goes u) h in
     then-if GoesOn (f (byteAt s at)) _ _ (on s F t (g .0) e at) (on s F u (g .1) e at)
-on s F (starts w t u) h e at =
+on s F (look w t u) h e at =
     let g = both (goes t) (goes u) h in
-    then-if GoesOn (opens s w at) _ _ (on s F t (g .0) e at) (on s F u (g .1) e at)
+    then-if GoesOn (stands s w at) _ _ (on s F t (g .0) e at) (on s F u (g .1) e at)
 on s F (after r f t u) h e at = let g = both (goes t) (goes u) h in
     then-any GoesOn (parse s F r e at) (λ a o p. pick (f (byteAt s p)) (parse s F t e at) (parse s F u e at))
     (λ a o p. then-if GoesOn (f (byteAt s p)) _ _ (on s F t (g .0) e at) (on s F u (g .1) e at))
@@ -223,7 +223,7 @@ wide s F stop e at = (omega arith, tt)
 wide s F step e at = then-if (WideTo s at) (ltb at (length s)) _ _ (omega arith, (refl, tt)) tt
 wide s F (refuse n w) e at = then-refusal (WideTo s at) n w e at
 wide s F (when f t u) e at = then-if (WideTo s at) (f (byteAt s at)) _ _ (wide s F t e at) (wide s F u e at)
-wide s F (starts w t u) e at = then-if (WideTo s at) (opens s w at) _ _ (wide s F t e at) (wide s F u e at)
+wide s F (look w t u) e at = then-if (WideTo s at) (stands s w at) _ _ (wide s F t e at) (wide s F u e at)
 wide s F (after r f t u) e at =
     then-any (WideTo s at) (parse s F r e at) _
     (λ a o p. then-if (WideTo s at) (f (byteAt s p)) _ _ (wide s F t e at) (wide s F u e at))
@@ -267,7 +267,7 @@ calm (refuse n mark) = false
 calm (refuse n fromMark) = false
 calm (refuse n thisByte) = true
 calm (when f t u) = pick (calm t) (calm u) false
-calm (starts w t u) = pick (calm t) (calm u) false
+calm (look w t u) = pick (calm t) (calm u) false
 calm (after r f t u) = pick (calm r) (pick (calm t) (calm u) false) false
 calm (seq t u) = pick (calm t) (calm u) false
 calm (many t) = calm t
@@ -299,9 +299,9 @@ unmarked s F (refuse n thisByte) h e e′ at = refl
 unmarked s F (when f t u) h e e′ at =
     let g = both (calm t) (calm u) h in
     λ i. pick (f (byteAt s at)) (unmarked s F t (g .0) e e′ at i) (unmarked s F u (g .1) e e′ at i)
-unmarked s F (starts w t u) h e e′ at =
+unmarked s F (look w t u) h e e′ at =
     let g = both (calm t) (calm u) h in
-    λ i. pick (opens s w at) (unmarked s F t (g .0) e e′ at i) (unmarked s F u (g .1) e e′ at i)
+    λ i. pick (stands s w at) (unmarked s F t (g .0) e e′ at i) (unmarked s F u (g .1) e e′ at i)
 unmarked s F (after r f t u) h e e′ at =
     let g = both (calm r) (pick (calm t) (calm u) false) h in
     let k = both (calm t) (calm u) (g .1) in

@@ -8,9 +8,9 @@ use lib.ListN.{length}
 use lib.Dec.{eqb, ltb}
 use borrow.Author.Tests.{ltb-true, ltb-false, eqb-true, lt-ltb}
 use Rattle.rules.specs.Forest.{nil, byte}
-use Rattle.rules.specs.Rule.{Test, Rule, done, stop, step, refuse, when, starts, after, seq, many, wrap, said}
+use Rattle.rules.specs.Rule.{Test, Rule, done, stop, step, refuse, when, look, after, seq, many, wrap, said}
 use Rattle.rules.specs.Rule.{marked, paired}
-use Rattle.rules.specs.Parse.{Answer, got, trouble, pick, byteAt, opens, parse, parseAll}
+use Rattle.rules.specs.Parse.{Answer, got, trouble, pick, byteAt, stands, parse, parseAll}
 use Rattle.rules.proofs.Run.{never, both}
 use Rattle.rules.proofs.Got.{false-true}
 use Rattle.rules.proofs.Ends.{top-got}
@@ -30,7 +30,7 @@ refusesBy n b stop = true
 refusesBy n b step = b
 refusesBy n b (refuse m w) = eqb m n
 refusesBy n b (when f t u) = pick (refusesBy n (pick b true (notAtEnd f)) t) (refusesBy n b u) false
-refusesBy n b (starts w t u) = pick (refusesBy n b t) (refusesBy n b u) false
+refusesBy n b (look w t u) = pick (refusesBy n b t) (refusesBy n b u) false
 refusesBy n b (after r f t u) = pick (refusesBy n b r) (pick (refusesBy n b t) (refusesBy n b u) false) false
 refusesBy n b (seq t u) = pick (refusesBy n b t) (refusesBy n false u) false
 refusesBy n b (many t) = pick (advances t) (refusesBy n false t) false
@@ -98,9 +98,9 @@ module _ (n : ℕ) (s : List ℕ) (F : ℕ) (enough : length s < F) where
           → Only (pick c (parse s F t e at) (parse s F u e at))
       by true c x y = x c
       by false c x y = y
-  only (starts w t u) b h e at i k =
+  only (look w t u) b h e at i k =
       let g = both (refusesBy n b t) (refusesBy n b u) h in
-      refuses-if (λ m. m ≡ n) (opens s w at) _ _ (only t b (g .0) e at i k) (only u b (g .1) e at i k)
+      refuses-if (λ m. m ≡ n) (stands s w at) _ _ (only t b (g .0) e at i k) (only u b (g .1) e at i k)
   only (after r f t u) b h e at i k =
       let g = both (refusesBy n b r) (pick (refusesBy n b t) (refusesBy n b u) false) h in
       let g′ = both (refusesBy n b t) (refusesBy n b u) (g .1) in

@@ -9,11 +9,11 @@ use lib.Dec.{eqb, ltb}
 use borrow.Author.Tests.{lt-ltb}
 use Rattle.rules.specs.Forest.{Label, Forest, group, content, _⋈_}
 use Rattle.rules.specs.Rule.{Place, here, mark, fromMark, thisByte, Test, Verdict, fine, differ, Rule, step}
-use Rattle.rules.specs.Parse.{Answer, got, trouble, pick, andThen, behind, byteAt, opens, refusal, judged, repeat}
+use Rattle.rules.specs.Parse.{Answer, got, trouble, pick, andThen, behind, byteAt, stands, refusal, judged, repeat}
 use Rattle.rules.specs.Parse.{parse, parseAll}
 use Rattle.rules.proofs.Ends.{top-got}
 use Rattle.rules.proofs.Flow.{Mode, Numbered, Flow, f-weak, f-done, f-stop, f-step, f-refuse, f-when, f-expect}
-use Rattle.rules.proofs.Flow.{f-starts, f-after, f-seq, f-many, f-wrap, f-said, f-marked, f-paired, f-pass}
+use Rattle.rules.proofs.Flow.{f-look, f-after, f-seq, f-many, f-wrap, f-said, f-marked, f-paired, f-pass}
 use Rattle.rules.proofs.Flow.{f-last}
 use Rattle.rules.proofs.Advance.{advance}
 
@@ -101,8 +101,8 @@ module _ (C : ℕ → Rule) (Q : Test) (R : Label → Forest → Type 0) (s : Li
       refuses-if NotZero (f (byteAt s at)) _ _ (not-stuck x e at i) (not-stuck y e at i)
   not-stuck (f-expect {f = f} q x) e at i =
       refuses-if NotZero (f (byteAt s at)) _ _ (not-stuck-step s F e at) (not-stuck x e at i)
-  not-stuck (f-starts {w = w} sn pw x y) e at i =
-      refuses-if NotZero (opens s w at) _ _ (not-stuck x e at i) (not-stuck y e at i)
+  not-stuck (f-look {w = w} sn pw x y) e at i =
+      refuses-if NotZero (stands s w at) _ _ (not-stuck x e at i) (not-stuck y e at i)
   not-stuck (f-after {f = f} {r} gr fr x y) e at i =
       refuses-then NotZero (parse s F r e at) _ (not-stuck fr e at i)
       (λ a o p h. refuses-if NotZero (f (byteAt s p)) _ _ (not-stuck x e at i) (not-stuck y e at i))

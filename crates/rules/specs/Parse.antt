@@ -1,12 +1,12 @@
 -- The meaning of a grammar: what a rule reads of an input, from a place on.
-use Prim.Native.Nat.{ℕ, zero, suc, _+_, _<_}
+use Prim.Native.Nat.{ℕ, zero, suc, _+_, _-_, _*_, _<_}
 use mathlib.Core.Bool.{Bool, true, false}
 use mathlib.Core.List.{List, [], _∷_}
 use lib.ListN.{length, getD}
 use lib.Dec.{ltb, eqb}
 use Rattle.rules.specs.Forest.{Forest, nil, byte, group, content, _⋈_}
-use Rattle.rules.specs.Rule.{Place, here, mark, fromMark, thisByte, Verdict, fine, differ, Rule, done, stop}
-use Rattle.rules.specs.Rule.{step, refuse, when, starts, after, seq, many, wrap, said, marked, paired}
+use Rattle.rules.specs.Rule.{Place, here, mark, fromMark, thisByte, Verdict, fine, differ, Look, bytes, char, Rule}
+use Rattle.rules.specs.Rule.{done, stop, step, refuse, when, look, after, seq, many, wrap, said, marked, paired}
 
 -- Whether to go on, what was read, and the next place; or a refusal: its number and two places, start and end.
 pub data Answer : Type 0 where
@@ -48,6 +48,35 @@ unfoldable pub opens : List ℕ → List ℕ → ℕ → Bool
 opens s [] at = true
 opens s (b ∷ w) at = pick (eqb (byteAt s at) b) (opens s w (at + 1)) false
 
+-- The code that no character has: that of the end of the input, and of bytes that make no character.
+abbrev pub noChar : ℕ
+noChar = 0x11_0000
+
+-- The code that begins with c and goes on with the n bytes from a place on: each is 80 to BF and brings six bits.
+unfoldable pub codeOn : List ℕ → (n c at : ℕ) → ℕ
+codeOn s zero c at = c
+codeOn s (suc n) c at =
+    let b = byteAt s at in
+    pick (ltb b 0x80) noChar
+    (pick (ltb b 0xC0) (codeOn s n (c * 0x40 + (b - 0x80)) (at + 1))
+    noChar)
+
+-- The code of the character at a place, by its UTF-8: the first byte says how many follow.
+unfoldable pub codeAt : List ℕ → ℕ → ℕ
+codeAt s at =
+    let b = byteAt s at in
+    pick (ltb b 0x80) b
+    (pick (ltb b 0xC0) noChar
+    (pick (ltb b 0xE0) (codeOn s 1 (b - 0xC0) (at + 1))
+    (pick (ltb b 0xF0) (codeOn s 2 (b - 0xE0) (at + 1))
+    (pick (ltb b 0xF8) (codeOn s 3 (b - 0xF0) (at + 1))
+    noChar))))
+
+-- Whether what is asked holds at a place.
+abbrev pub stands : List ℕ → Look → ℕ → Bool
+stands s (bytes w) at = opens s w at
+stands s (char f) at = f (codeAt s at)
+
 -- A refusal at a place, read at `at` with the mark at `e`.
 abbrev pub refusal : ℕ → Place → (e at : ℕ) → Answer
 refusal n here e at = trouble n at at 0 0
@@ -74,7 +103,7 @@ parse s fuel step e at =
     pick (ltb at (length s)) (got true (byte (byteAt s at) nil) (at + 1)) (trouble endOfInput at at 0 0)
 parse s fuel (refuse n w) e at = refusal n w e at
 parse s fuel (when f t u) e at = pick (f (byteAt s at)) (parse s fuel t e at) (parse s fuel u e at)
-parse s fuel (starts w t u) e at = pick (opens s w at) (parse s fuel t e at) (parse s fuel u e at)
+parse s fuel (look w t u) e at = pick (stands s w at) (parse s fuel t e at) (parse s fuel u e at)
 parse s fuel (after r f t u) e at =
     andThen (parse s fuel r e at) (λ a o p. pick (f (byteAt s p)) (parse s fuel t e at) (parse s fuel u e at))
 parse s fuel (seq t u) e at =

@@ -4,7 +4,7 @@ use mathlib.Core.Bool.{Bool}
 use mathlib.Core.List.{List}
 use Rattle.rules.specs.Forest.{Label, node, Forest}
 
--- A question about one byte; the end of the input counts as the byte 256.
+-- A question about one byte, where the end of the input counts as the byte 256; or about the code of a character.
 abbrev pub Test : Type 0
 Test = ℕ → Bool
 
@@ -18,6 +18,11 @@ pub data Verdict : Type 0 where
   fine : Verdict
   differ : (number start end start₂ end₂ : ℕ) → Verdict
 
+-- What is asked of the bytes from here on: whether these stand here; or a question about the character here.
+pub data Look : Type 0 where
+  bytes : List ℕ → Look
+  char : Test → Look
+
 pub data Rule : Type 0 where
   -- nothing, and go on
   done : Rule
@@ -29,8 +34,8 @@ pub data Rule : Type 0 where
   refuse : ℕ → Place → Rule
   -- one of two rules, by the byte here
   when : Test → Rule → Rule → Rule
-  -- one of two rules, by whether these bytes stand here
-  starts : List ℕ → Rule → Rule → Rule
+  -- one of two rules, by what stands here
+  look : Look → Rule → Rule → Rule
   -- one of two rules, by the byte behind what the first rule reads here. The first rule's refusal counts; what it
   -- reads is not passed.
   after : Rule → Test → Rule → Rule → Rule
@@ -55,7 +60,15 @@ t ⨾ u = seq t u
 infixr 30 _⇒_∣_
 -- A table of choices, tried in order: `when f ⇒ t ∣ after r g ⇒ u ∣ v`.
 abbrev pub _⇒_∣_ : (Rule → Rule → Rule) → Rule → Rule → Rule
-look ⇒ t ∣ u = look t u
+choose ⇒ t ∣ u = choose t u
+
+-- One of two rules, by whether these bytes stand here.
+abbrev pub starts : List ℕ → Rule → Rule → Rule
+starts w = look (bytes w)
+
+-- One of two rules, by the character here.
+abbrev pub whenChar : Test → Rule → Rule → Rule
+whenChar f = look (char f)
 
 -- A node of a kind, with extra word 0.
 abbrev pub nodeOf : ℕ → Rule → Rule

@@ -3,34 +3,35 @@ use mathlib.Core.Path.{_≡_, refl, sym, ap, subst, _∙_}
 use mathlib.Core.Bool.{Bool, true, false}
 use mathlib.Core.List.{List, [], _∷_}
 use Prim.Native.Nat.{ℕ, zero, suc, _+_, _-_, _≤_, _<_}
+use Prim.Native.Char.{code}
 use native.Mathlib.Nat.{le-refl}
 use native.Mathlib.Omega.{arith}
 use native.Mathlib.Decide.{decLt}
 use lib.ListN.{length, getD}
-use lib.Dec.{eqb, ltb}
-use borrow.Author.Tests.{eq-eqb, ne-eqb, lt-ltb, ltb-true, ltb-false}
+use lib.Dec.{ltb}
+use borrow.Author.Tests.{eq-eqb, lt-ltb, eqb-true}
 use Rattle.rules.specs.Forest.{Forest}
 use Rattle.rules.specs.Rule.{Test, Rule, done, step}
-use Rattle.rules.specs.Parse.{got, pick, byteAt, opens, readAt}
-use Rattle.rules.proofs.Got.{false-true}
+use Rattle.rules.specs.Parse.{got, pick, byteAt, readAt}
 use Rattle.rules.proofs.Local.{Seen, local-got}
-use Rattle.rules.proofs.Agree.{Lacks}
+use Rattle.rules.proofs.Agree.{Lacks, stands-twin}
 use Rattle.rules.proofs.Flow.{Mode, near, same, tight-near, seen-near, advances, lacking, Flow}
-use Rattle.rules.proofs.Flow.{f-weak, f-stop, f-step, f-refuse, f-when, f-starts, f-seq, f-many, f-marked}
+use Rattle.rules.proofs.Flow.{f-weak, f-stop, f-step, f-refuse, f-when, f-look, f-seq, f-many, f-marked}
 use Rattle.rules.proofs.Reach.{reach}
-use Rattle.jsx.specs.Byte.{is, _or_, letter, need}
+use Rattle.jsx.specs.Byte.{is, _or_, letter, need, character}
 use Rattle.jsx.specs.Blank.{commentTurn, comment, lineTurn, lineComment, blank, blanks}
 use Rattle.jsx.specs.Name as Name
 use Rattle.jsx.specs.Name.{opensName, part as namePart}
 use Rattle.lex.specs.Contract.{bytesFrom, Past}
 use Rattle.lex.proofs.SameBytes.{length-part}
+use Rattle.word.proofs.Ascii.{opens-low}
 use Rattle.same.proofs.Names as Names
 use Rattle.same.proofs.Forms.{bytesTo}
 use Rattle.same.proofs.Equal.{same-is}
 
 -- ---- parts and blanks look no further than the byte at their end
 
--- No `starts` of the rule asks for a byte that passes Q.
+-- No `look` of the rule goes on behind a byte that passes Q.
 abbrev Near : Test → Rule → Mode → Type 0
 Near Q t k = Flow (λ d. done) Q (λ l o. Unit {0}) near t near k
 
@@ -51,20 +52,36 @@ comment-near : {k : Mode} → Near ends comment k
 unfolding comment commentTurn advances lacking ends opensName letter
 comment-near =
     f-marked (f-seq step-near (f-seq step-near (f-seq
-    (f-many refl (f-when seen-near (f-refuse refl) (f-starts seen-near refl f-stop step-near)))
+    (f-many refl (f-when seen-near (f-refuse refl) (f-look seen-near refl f-stop step-near)))
     (f-seq step-near step-near))))
 
+-- Each of them is a character of its own.
+ends-low : (b : ℕ) → ends b ≡ true → ltb b 0x80 ≡ true
+unfolding ends
+ends-low b h = go (is ":" b) (is "." b) refl refl h
+  where
+    go : (x y : Bool) → is ":" b ≡ x → is "." b ≡ y → pick x true (pick y true (opensName b)) ≡ true → ltb b 0x80 ≡ true
+    go true y e f k = rw (eqb-true b (code ":") e)
+    go false true e f k = rw (eqb-true b (code ".") f)
+    go false false e f k = lt-ltb b 0x80 (opens-low b k)
+
 line-near : {k : Mode} → Near ends lineComment k
-unfolding lineComment lineTurn advances lacking ends opensName letter
+unfolding lineComment lineTurn advances
 line-near =
-    f-seq step-near (f-seq step-near (f-many refl (f-when seen-near f-stop
-    (f-starts seen-near refl (f-refuse refl) (f-starts seen-near refl (f-refuse refl) step-near)))))
+    f-seq step-near
+    (f-seq step-near (f-many refl (f-when seen-near f-stop (f-look seen-near ends-low f-stop step-near))))
+
+character-near : Near ends character near
+character-near =
+    f-when seen-near (f-seq step-near step-near)
+    (f-when seen-near (f-seq step-near (f-seq step-near step-near))
+    (f-when seen-near (f-seq step-near (f-seq step-near (f-seq step-near step-near))) step-near))
 
 blanks-near : Near ends blanks near
 unfolding blanks blank comment lineComment advances lacking ends opensName letter
 blanks-near =
-    f-many refl (f-when seen-near step-near
-    (f-starts seen-near refl comment-near (f-starts seen-near refl line-near f-stop)))
+    f-many refl (f-look seen-near ends-low character-near
+    (f-look seen-near refl comment-near (f-look seen-near refl line-near f-stop)))
 
 -- ---- spans with the same bytes
 
@@ -127,38 +144,20 @@ module _ {s : List ℕ} {a b c d : ℕ} (v : Twins s a b c d) where
           rw (eq-eqb (byteAt s p) (byteAt s q) (v .bytes p q t l (omega arith)))
           (go n (p + 1) (q + 1) (omega arith) (omega arith) (omega arith))
 
-  -- Where the byte before h passes a test, no run of bytes that fail it reaches across h.
-  module _ (Q : Test) (h : ℕ) (le : h ≤ b) (al : (j : ℕ) → j + 1 ≡ h → Q (byteAt s j) ≡ true) where
-    opens-twin : (w : List ℕ) (p q : ℕ) → p + c ≡ q + a → a ≤ p → p < h → Lacks Q w → opens s w p ≡ opens s w q
-    unfolding opens
-    opens-twin [] p q tw lo lt x = refl
-    opens-twin (k ∷ w) p q tw lo lt x =
-        go (ltb (p + 1) h) refl (λ m. opens-twin w (p + 1) (q + 1) (omega arith) (omega arith) m (x .1))
-      where
-        here : byteAt s p ≡ byteAt s q
-        here = v .bytes p q tw lo (omega arith)
-
-        edge : Q (byteAt s p) ≡ true
-            → pick (eqb (byteAt s p) k) (opens s w (p + 1)) false ≡ pick (eqb (byteAt s q) k) (opens s w (q + 1)) false
-        edge m =
-            let n : eqb (byteAt s p) k ≡ false = ne-eqb (byteAt s p) k (λ e. false-true (ap Q e ∙ x .0) m) in
-            let n₂ : eqb (byteAt s q) k ≡ false = ap (λ (z : ℕ). eqb z k) (sym here) ∙ n in
-            rw (n, n₂)
-
-        go : (z : Bool) → ltb (p + 1) h ≡ z → (p + 1 < h → opens s w (p + 1) ≡ opens s w (q + 1))
-            → pick (eqb (byteAt s p) k) (opens s w (p + 1)) false ≡ pick (eqb (byteAt s q) k) (opens s w (q + 1)) false
-        go true e ih = λ i. pick (eqb (here i) k) (ih (ltb-true _ _ e) i) false
-        go false e ih = let y : h ≤ p + 1 = ltb-false _ _ e in edge (al p (omega arith))
-
-    seen-twin : (p q : ℕ) → p + c ≡ q + a → a ≤ p → p < h → Seen (Lacks Q) s s p q
-    seen-twin p q tw lo lt =
-        let l = v .long in
-        let i = v .inside in
-        let j = v .inside₂ in (
-          v .bytes p q tw lo (omega arith),
-          lt-ltb p (length s) (omega arith) ∙ sym (lt-ltb q (length s) (omega arith)),
-          λ w x. opens-twin w p q tw lo lt x,
-        )
+  -- Where the byte before h passes a test, they show the same before h, if nothing is asked that goes on behind such a
+  -- byte.
+  seen-twin : (Q : Test) (h : ℕ) → h ≤ b → ((j : ℕ) → j + 1 ≡ h → Q (byteAt s j) ≡ true) → (p q : ℕ) → p + c ≡ q + a
+      → a ≤ p
+      → p < h
+      → Seen (Lacks Q) s s p q
+  seen-twin Q h le al p q tw lo lt =
+      let l = v .long in
+      let i = v .inside in
+      let j = v .inside₂ in (
+        v .bytes p q tw lo (omega arith),
+        lt-ltb p (length s) (omega arith) ∙ sym (lt-ltb q (length s) (omega arith)),
+        λ w x. stands-twin s s a c a h (λ p₁ q₁ e m n. v .bytes p₁ q₁ e m (omega arith)) Q al w p q tw lo lt x,
+      )
 
   -- What a rule reads within the one span, it reads within the other.
   read-twin : {Q : Test} {t : Rule} → Near Q t near → (x y : ℕ) {p : ℕ} {o : Forest} → x + c ≡ y + a → a ≤ x → x ≤ p

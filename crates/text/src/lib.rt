@@ -32,13 +32,27 @@ pub fn in_text(b: u32) -> bool
     }
 }
 
+// The same test, for many bytes in a row. With bit 6 left out, `<`, `>`, `{` and `}` are 3B to 3E hex, so one test tells
+// most bytes of a text.
+fn stays_in_text(b: u32) -> bool
+    ensures { λ r. ⌜ r ≡ inText b ⌝ }
+{
+    if b == END {
+        return false;
+    }
+    match b & 0xBF {
+        0x3B..=0x3E => in_text(b),
+        _ => true,
+    }
+}
+
 // A text, whose first byte was seen: its end. (The text's case of the Rust's `read_jsx_child`.)
 pub fn read_jsx_text(s: &[u8], at: usize) -> usize
     requires { ⌜ (at ≤ length (now s)) × (inText (byteAt (now s) at) ≡ true) ⌝ }
     ensures { λ r. ⌜ Past r (now (s .entry)) text at 1 ⌝ }
 {
     let mut p = at + 1;
-    while in_text(lex::byte(s, p)) {
+    while stays_in_text(lex::byte(s, p)) {
         p = p + 1;
     }
     p

@@ -16,7 +16,7 @@ use Rattle.jsx.specs.Utf8.{second, other, sequence}
 use Rattle.utf8.specs.Lead.{leads, saidOf, leadOf}
 use Rattle.utf8.specs.declared.Lead.{Lead}
 use Rattle.utf8.specs.declared.Lead.the-variants.{Alone, Of, Bad}
-use Rattle.utf8.proofs.Ranges.{in-range, under, over}
+use Rattle.lex.proofs.Ranges.{in-range, under, over}
 
 -- ---- the arms
 

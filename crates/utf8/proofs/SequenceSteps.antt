@@ -17,7 +17,7 @@ use Rattle.lex.proofs.Laws.{seq-no, known}
 use Rattle.utf8.specs.Lead.{leadOf, Ended}
 use Rattle.utf8.specs.declared.Lead.{Lead}
 use Rattle.utf8.specs.declared.Lead.the-variants.{Alone, Of, Bad}
-use Rattle.utf8.proofs.Ranges.{range-inside}
+use Rattle.lex.proofs.Ranges.{range-inside}
 use Rattle.utf8.proofs.LeadSteps.{begun, lead-reads, lead-length}
 
 -- ---- a byte behind the lead byte

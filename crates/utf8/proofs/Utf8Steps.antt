@@ -18,7 +18,7 @@ use Rattle.lex.specs.declared.Ans.the-variants.{Got, No}
 use Rattle.lex.proofs.Laws.{inside, when-no, leaf-stop, leaf-done}
 use Rattle.lex.proofs.Turns.{Turns, turns-begin, turns-more, turns-end, turns-no}
 use Rattle.utf8.specs.Lead.{Ended}
-use Rattle.utf8.proofs.Ranges.{in-range}
+use Rattle.lex.proofs.Ranges.{in-range}
 
 -- The rule `utf8` is `many turn`.
 abbrev pub turn : Rule

@@ -1,4 +1,3 @@
-use Rattle.blank.proofs.Asked.{asked}
 use Prim.Native.Nat.{_+_, _-_}
 use lib.ListN.{length}
 use Rattle.jsx.specs.Blank.{lineTurn}
@@ -6,6 +5,7 @@ use Rattle.lex.proofs.Turns.{Turns}
 use Rattle.blank.proofs.skip_line_comment.Statement.{statement}
 use Rattle.blank.proofs.skip_line_comment.Tie as tie
 use Rattle.blank.proofs.CommentSteps.{comment-steps}
+use Rattle.blank.proofs.Asked.{asked}
 
 abbrev Inv-loop : tie.InvT-loop
 Inv-loop s at p₀ p = Turns s lineTurn 0 (at + 2) p
@@ -19,17 +19,8 @@ add-p c = search asked
 loop-holds : tie.Need-loop-holds Inv-loop μ-loop
 loop-holds c = search comment-steps
 
-byte-requires : tie.Need-byte-requires Inv-loop μ-loop
-byte-requires c κs = search asked
-
-ends-line-requires : tie.Need-ends-line-requires Inv-loop μ-loop
-ends-line-requires c κs = search asked
-
-separates-requires : tie.Need-separates-requires Inv-loop μ-loop
-separates-requires c κs = search asked
-
-returns : tie.Need-returns Inv-loop μ-loop
-returns c = search comment-steps
+line-ends-requires : tie.Need-line-ends-requires Inv-loop μ-loop
+line-ends-requires c κs = search asked
 
 add-p-2 : tie.Need-add-p-2 Inv-loop μ-loop
 add-p-2 c = search asked
@@ -40,8 +31,8 @@ loop-less c = search asked
 loop-again : tie.Need-loop-again Inv-loop μ-loop
 loop-again c = search comment-steps
 
-returns-2 : tie.Need-returns-2 Inv-loop μ-loop
-returns-2 c = search comment-steps
+returns : tie.Need-returns Inv-loop μ-loop
+returns c = search comment-steps
 
 pub skip-line-comment-spec : {M : Type 1} → statement M
 skip-line-comment-spec =
@@ -51,11 +42,8 @@ skip-line-comment-spec =
     μ-loop
     add-p
     loop-holds
-    byte-requires
-    ends-line-requires
-    separates-requires
-    returns
+    line-ends-requires
     add-p-2
     loop-less
     loop-again
-    returns-2)
+    returns)

@@ -23,8 +23,8 @@ loop-holds c = search text-steps
 byte-requires : tie.Need-byte-requires Inv-loop μ-loop
 byte-requires c κs = search asked
 
-in-text-requires : tie.Need-in-text-requires Inv-loop μ-loop
-in-text-requires c κs = search asked
+stays-in-text-requires : tie.Need-stays-in-text-requires Inv-loop μ-loop
+stays-in-text-requires c κs = search asked
 
 add-p-2 : tie.Need-add-p-2 Inv-loop μ-loop
 add-p-2 c = search asked
@@ -47,7 +47,7 @@ read-jsx-text-spec =
     add-p
     loop-holds
     byte-requires
-    in-text-requires
+    stays-in-text-requires
     add-p-2
     loop-less
     loop-again
