@@ -1,7 +1,7 @@
-/* A plain C reader of document 01, with requests 5 and 3 of document 02, byte by byte: the yardstick. It keeps the
-   port's contract and nothing of its code. A check is the UTF-8 test and one pass; a read is a check, then the same pass
-   with a table. No trick that a first version in C would not have: keep it so. A function gives 1 where it could go on, 0
-   where the reader holds a refusal. */
+/* A plain C reader of document 01, with requests 5, 3 and 1 of document 02, byte by byte: the yardstick. It keeps the
+   port's contract and nothing of its code. A check is the UTF-8 test and one pass; a read is a check, then the same
+   pass with a table. No trick that a first version in C would not have: keep it so. A function gives 1 where it could
+   go on, 0 where the reader holds a refusal. */
 #include "plain.h"
 #include <string.h>
 
@@ -117,28 +117,48 @@ static int block_comment(R *r) {
     return no_at(r, 17, r->at);
 }
 
-static int line_comment(R *r) {
+/* U+2028 or U+2029. The input is UTF-8 by now, so the bytes behind a lead byte are there. */
+static int wide_line_end(const uint8_t *s) {
+    return s[0] == 0xE2 && s[1] == 0x80 && (s[2] == 0xA8 || s[2] == 0xA9);
+}
+
+static void line_comment(R *r) {
     size_t p = r->at + 2;
-    for (;; p++) {
-        int b = byte(r, p);
-        if (b == END || b == '\n' || b == '\r') break;
-        if (b == 0xE2 && byte(r, p + 1) == 0x80 && (byte(r, p + 2) | 1) == 0xA9) return no_at(r, 3, p);
+    for (; p < r->n; p++) {
+        uint8_t b = r->s[p];
+        if (b == '\n' || b == '\r' || wide_line_end(r->s + p)) break;
     }
     r->at = p;
-    return 1;
+}
+
+/* The length of the blank beyond ASCII that begins here; 0 where none does. */
+static size_t wide_blank(const uint8_t *s) {
+    switch (s[0]) {
+    case 0xC2: return s[1] == 0xA0 ? 2 : 0;                 /* U+00A0 */
+    case 0xE1: return s[1] == 0x9A && s[2] == 0x80 ? 3 : 0; /* U+1680 */
+    case 0xE2:
+        if (s[1] == 0x81) return s[2] == 0x9F ? 3 : 0;                           /* U+205F */
+        if (s[1] == 0x80 && (among(s[2], 0x80, 0x8A) || s[2] == 0xAF)) return 3; /* U+2000 to U+200A, U+202F */
+        return wide_line_end(s) ? 3 : 0;
+    case 0xE3: return s[1] == 0x80 && s[2] == 0x80 ? 3 : 0; /* U+3000 */
+    case 0xEF: return s[1] == 0xBB && s[2] == 0xBF ? 3 : 0; /* U+FEFF */
+    default: return 0;
+    }
 }
 
 static int blanks(R *r) {
     for (;;) {
         int b = here(r);
         if (among(b, 9, 13) || b == ' ') r->at++;
-        else if (b != '/') return 1;
+        else if (among(b, 0x80, 0xFF)) {
+            size_t k = wide_blank(r->s + r->at);
+            if (k == 0) return 1;
+            r->at += k;
+        } else if (b != '/') return 1;
         else if (byte(r, r->at + 1) == '*') {
             if (!block_comment(r)) return 0;
-        } else if (byte(r, r->at + 1) == '/') {
-            if (!line_comment(r)) return 0;
-        } else
-            return 1;
+        } else if (byte(r, r->at + 1) == '/') line_comment(r);
+        else return 1;
     }
 }
 
