@@ -1,5 +1,6 @@
-//! Items made of recorded stages: as they are, or damaged as a bad line damages them.
+//! Items made of recorded stages: as they are, or damaged as a bad line or a caption editor damages them.
 
+use crate::blank::{blank_length, ASCII_BLANKS, BLANKS};
 use crate::item::{Item, Reading};
 use crate::random::Random;
 use crate::stages::{Stage, Stages};
@@ -15,6 +16,10 @@ const ENDS_AND_BRACES: &[u8] = b"\"'*{";
 /// What breaks a string in braces, and what opens a string or a comment.
 const LINE_ENDS: [&[u8]; 3] = [b"\n", b"\r", b"\r\n"];
 const OPENERS: [&[u8]; 3] = [b"\"", b"'", b"/*"];
+/// What a caption editor pastes most; any blank beyond ASCII may come instead.
+const OFTEN_PASTED: [char; 4] = ['\u{A0}', '\u{FEFF}', '\u{2028}', '\u{2029}'];
+/// Characters that look like blanks and are none.
+const NEAR_MISSES: [char; 4] = ['\u{85}', '\u{180E}', '\u{200B}', '\u{2060}'];
 
 #[derive(Clone, Copy, PartialEq, Eq, Debug)]
 pub enum Damage {
@@ -27,11 +32,12 @@ pub enum Damage {
     Spliced,
     SplicedWithin,
     LeftOpen,
+    Pasted,
     Composed,
 }
 
-/// How often each is drawn: in so many of 22 items.
-const SHARES: [(Damage, usize); 10] = [
+/// How often each is drawn: in so many of 24 items.
+const SHARES: [(Damage, usize); 11] = [
     (Damage::None, 1),
     (Damage::PacketLost, 3),
     (Damage::BytesLost, 3),
@@ -41,11 +47,12 @@ const SHARES: [(Damage, usize); 10] = [
     (Damage::Spliced, 2),
     (Damage::SplicedWithin, 1),
     (Damage::LeftOpen, 2),
+    (Damage::Pasted, 2),
     (Damage::Composed, 2),
 ];
 
 /// What a composed damage is made of.
-const SINGLE: [Damage; 8] = [
+const SINGLE: [Damage; 9] = [
     Damage::PacketLost,
     Damage::BytesLost,
     Damage::BitsFlipped,
@@ -54,6 +61,7 @@ const SINGLE: [Damage; 8] = [
     Damage::Spliced,
     Damage::SplicedWithin,
     Damage::LeftOpen,
+    Damage::Pasted,
 ];
 
 impl Damage {
@@ -68,6 +76,7 @@ impl Damage {
             Damage::Spliced => "spliced",
             Damage::SplicedWithin => "spliced-within",
             Damage::LeftOpen => "left-open",
+            Damage::Pasted => "pasted",
             Damage::Composed => "composed",
         }
     }
@@ -129,6 +138,7 @@ fn damaged(bytes: &[u8], damage: Damage, stages: &Stages, random: &mut Random) -
         }
         Damage::SplicedWithin => spliced(bytes, bytes, random),
         Damage::LeftOpen => left_open(bytes, random),
+        Damage::Pasted => pasted(bytes, random),
         Damage::Composed => composed(bytes, stages, random),
     }
 }
@@ -206,6 +216,53 @@ fn left_open(bytes: &[u8], random: &mut Random) -> Vec<u8> {
         2 => [front, *random.one_of(&LINE_ENDS), back].concat(),
         _ => front.to_vec(),
     }
+}
+
+/// From 1 to 4 times, what a caption editor pastes comes in place of a blank, or where a token may begin or end.
+fn pasted(bytes: &[u8], random: &mut Random) -> Vec<u8> {
+    let mut bytes = bytes.to_vec();
+    for _ in 0..random.within(1, 4) {
+        let places = match random.once_in(2) {
+            true => blanks(&bytes),
+            false => borders(&bytes),
+        };
+        if places.is_empty() {
+            continue;
+        }
+        let (start, end) = *random.one_of(&places);
+        bytes.splice(start..end, drawn_paste(random).to_string().bytes());
+    }
+    bytes
+}
+
+/// Half of what is pasted is one of the four that are met most; once in eight it is no blank.
+fn drawn_paste(random: &mut Random) -> char {
+    match random.below(8) {
+        0 => *random.one_of(&NEAR_MISSES),
+        1..=4 => *random.one_of(&OFTEN_PASTED),
+        _ => *random.one_of(&BLANKS[ASCII_BLANKS..]),
+    }
+}
+
+/// Where each blank character starts and ends.
+fn blanks(bytes: &[u8]) -> Vec<(usize, usize)> {
+    let lengths = (0..bytes.len()).map(|at| (at, at + blank_length(&bytes[at..])));
+    lengths.filter(|(start, end)| start < end).collect()
+}
+
+/// The empty parts beside a mark or a blank, and those around the whole: a character of several bytes is not cut.
+fn borders(bytes: &[u8]) -> Vec<(usize, usize)> {
+    let is_mark =
+        |byte: &u8| byte.is_ascii() && !byte.is_ascii_alphanumeric() && !b"_$".contains(byte);
+    let is_border = |at: &usize| {
+        let (front, back) = bytes.split_at(*at);
+        match (front.last(), back.first()) {
+            (Some(before), Some(behind)) => is_mark(before) || is_mark(behind),
+            _ => true,
+        }
+    };
+    let places = (0..=bytes.len()).filter(is_border);
+    places.map(|at| (at, at)).collect()
 }
 
 /// Two or three damages, one after the other.
@@ -322,6 +379,48 @@ mod tests {
             );
         }
         assert_eq!(left_open(b"<a/>", &mut Random::of_item(SEED, 0)), b"<a/>");
+    }
+
+    fn all_pasted(text: &str, count: u64) -> Vec<String> {
+        let one = |number| pasted(text.as_bytes(), &mut Random::of_item(SEED, number));
+        let text = |bytes| String::from_utf8(bytes).expect("no character is cut");
+        (0..count).map(one).map(text).collect()
+    }
+
+    #[test]
+    fn every_blank_beyond_ascii_and_every_near_miss_is_pasted() {
+        let all = all_pasted("<a b/>", 1_000).concat();
+        for wanted in BLANKS[ASCII_BLANKS..].iter().chain(&NEAR_MISSES) {
+            assert!(all.contains(*wanted), "{wanted:?}");
+        }
+    }
+
+    #[test]
+    fn a_paste_stands_for_a_blank_or_beside_a_mark() {
+        let all = all_pasted("<ab c='é'//x\n/>", 10_000);
+        let wanted = [
+            "<ab\u{A0}c='é'//x\n/>",
+            "\u{FEFF}<ab c='é'//x\n/>",
+            "<ab c='é'//x\u{2028}/>",
+            "<ab c=\u{2029}'é'//x\n/>",
+            "<ab c='é'//x\n/\u{200B}>",
+        ];
+        for wanted in wanted {
+            assert!(all.iter().any(|text| text == wanted), "{wanted:?}");
+        }
+        for text in &all {
+            let kept: String = text.chars().filter(char::is_ascii).collect();
+            let kept = kept.replace([' ', '\n'], "");
+            assert_eq!(kept, "<abc=''//x/>");
+            assert!(text.contains("ab"), "{text:?}");
+        }
+    }
+
+    #[test]
+    fn nothing_is_too_short_for_a_paste() {
+        assert!(all_pasted("", 50).iter().any(|text| !text.is_empty()));
+        let cut = pasted(b"\xE2\x80", &mut Random::of_item(SEED, 0));
+        assert!(cut.windows(2).any(|bytes| bytes == b"\xE2\x80"));
     }
 
     #[test]

@@ -1,16 +1,18 @@
-//! Document 01's paragraph 'Domain': where the port's answer must be another reader's too. `D:` quotes it, `D2:` document
-//! 02.
+//! Document 01's paragraph 'Domain': where the port's answer must be another reader's too. `D:` quotes it, `D2:`
+//! document 02.
 
 use crate::answer::{Answer, Refusal};
+use crate::blank::{blank_length, ends_line};
 use crate::item::{Item, Reading};
 
 /// Whether the domain holds the port's answer to this item, so that a parser that accepts where the port refuses,
 /// refuses where it accepts, or gives other spans, differs from it.
 ///
-/// D: "What the port accepts, the Rust accepts with the same spans". "What the port refuses by 2, 4 to 12 or 16, the Rust
-/// refuses too, where it can be given the bytes at all": a parser that cannot be given them answers `skip`. "Refusals 1,
-/// 14, 15, and 3 and 13 otherwise, are port limits."
-/// D2: "17 and 18 stand where 5 stood and count with 4 to 12 in the domain."
+/// D: "What the port accepts, the Rust accepts with the same spans". "What the port refuses by 2, 4 to 12 or 16, the
+/// Rust refuses too, where it can be given the bytes at all": a parser that cannot be given them answers `skip`.
+/// "Refusals 1, 14, 15, and 3 and 13 otherwise, are port limits."
+/// D2: "17 and 18 stand where 5 stood and count with 4 to 12 in the domain." "Demand 2's domain grows": what is
+/// accepted with the blanks that request 1 adds is compared as all else is.
 pub fn compared(item: &Item, port: &Answer) -> bool {
     let reached = |stop| Reach::of(item, stop);
     match port {
@@ -28,7 +30,7 @@ pub fn compared(item: &Item, port: &Answer) -> bool {
 }
 
 /// D: "The same for 3 outside braces at an ASCII byte other than a backslash, after the stage's first `<`, and not for
-/// a run's outermost `</`".
+/// a run's outermost `</`". So what only looks like a blank, as U+200B does, is not compared: request 7 changes that.
 fn three_compared(item: &Item, place: usize) -> bool {
     let plain = |byte: &u8| byte.is_ascii() && *byte != b'\\';
     let reach = Reach::of(item, place);
@@ -60,14 +62,16 @@ enum Slash {
     Last,
 }
 
-/// What the tokens that begin before a place leave open there. The port took each of them, so only their ends are looked for.
+/// What the tokens that begin before a place leave open there. The port took each of them, so only their ends are
+/// looked for.
 struct Reach<'a> {
     bytes: &'a [u8],
     /// Outermost first.
     open: Vec<Inside>,
     /// Whether a `<` was passed.
     past_first: bool,
-    /// D: "Not compared (the step isn't in the text): blanks between `=` and a quoted string that holds a backslash, LF or CR".
+    /// D: "Not compared (the step isn't in the text): blanks between `=` and a quoted string that holds a backslash, LF
+    /// or CR".
     odd_string: bool,
     slash: Slash,
     /// Whether no token of the tag was read yet.
@@ -99,17 +103,18 @@ impl Reach<'_> {
     fn past(&mut self, at: usize) -> usize {
         let here = self.open.last().copied().unwrap_or(Inside::Around);
         let rest = &self.bytes[at..];
+        let blank = blank_length(rest);
         match (rest[0], here) {
             (b'<', Inside::Children) => self.open_tag(),
             (b'{', Inside::Children) => self.open.push(Inside::Braces),
             (_, Inside::Children) => {}
+            _ if blank > 0 => return at + blank,
             _ if rest.starts_with(b"//") => return self.past_line(at),
             _ if rest.starts_with(b"/*") => return self.past_found(b"*/", at + 2),
             (b'"' | b'\'', Inside::Tag | Inside::Braces) => return self.past_string(at, here),
             (b'<', _) => self.open_tag(),
             (b'{', _) => self.open.push(Inside::Braces),
             (b'}', _) => self.close(),
-            (b'\t'..=b'\r' | b' ', _) => {}
             (byte, Inside::Tag) => self.in_tag(byte),
             _ => {}
         }
@@ -159,11 +164,12 @@ impl Reach<'_> {
         end
     }
 
-    /// The end of a `//` comment: LF, CR or the end of input.
+    /// The end of a `//` comment: LF, CR, U+2028, U+2029 or the end of input.
     fn past_line(&self, at: usize) -> usize {
-        let ends = |byte: &u8| matches!(byte, b'\n' | b'\r');
-        let length = self.bytes[at..].iter().position(ends);
-        length.map_or(self.bytes.len(), |length| at + length)
+        let ends = |place: &usize| ends_line(&self.bytes[*place..]);
+        (at..self.bytes.len())
+            .find(ends)
+            .unwrap_or(self.bytes.len())
     }
 
     fn past_found(&self, wanted: &[u8], start: usize) -> usize {

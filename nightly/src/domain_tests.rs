@@ -1,5 +1,5 @@
-//! What is compared, and what is not. Each answer is the oracle's, but in `limits_of_the_port`: there short inputs stand
-//! for those that meet a limit.
+//! What is compared, and what is not. Each answer is the oracle's, but in `limits_of_the_port`: there short inputs
+//! stand for those that meet a limit.
 
 use super::*;
 
@@ -40,6 +40,43 @@ fn what_is_accepted() {
         (RUN, "", &[]),
         (RUN, "hi{<b>x</b>}", &[]),
         (STAGE, "<a b=\"\\\"/>", &[]),
+    ];
+    all_compared(true, &cases);
+}
+
+/// Request 1 of document 02: ECMA-262's blanks between tokens, and U+2028 and U+2029 behind `//`.
+#[test]
+fn what_is_accepted_with_blanks_beyond_ascii() {
+    let cases: [Case; 10] = [
+        (STAGE, "<a\u{A0}b/>", &[]),
+        (STAGE, "\u{FEFF}<a/>\u{FEFF}", &[]),
+        (STAGE, "<a\u{1680}:\u{202F}b\u{205F}/>", &[]),
+        (STAGE, "<a//x\u{2028}b/>", &[]),
+        (STAGE, "<a>{//}\u{2029}b}</a>", &[]),
+        (STAGE, "<a/>//\u{2028}", &[]),
+        (RUN, "\u{FEFF}", &[]),
+        (STAGE, "<a b=\u{A0}'x'/>", &[]),
+        (STAGE, "<a b=\u{3000}'\u{2028}'/>", &[]),
+        (STAGE, "<a b=//\u{2029}{'c'}\n/>", &[]),
+    ];
+    all_compared(true, &cases);
+}
+
+#[test]
+fn refusals_behind_blanks_beyond_ascii() {
+    let cases: [Case; 12] = [
+        (STAGE, "\u{FEFF}", &[4, 3]),
+        (STAGE, "<\u{2028}", &[4, 4]),
+        (STAGE, "<a\u{A0}b='x", &[5, 6]),
+        (STAGE, "<\u{2007}></a>", &[8, 0, 5, 7, 8]),
+        (STAGE, "<a></\u{2007}>", &[9, 1, 2, 3, 9]),
+        (STAGE, "<a b={\u{3000}}/>", &[11, 5, 10]),
+        (STAGE, "<a/>//\u{2028}<b/>", &[12, 9, 10]),
+        (STAGE, "<a>{b\u{3000},c}</a>", &[16, 8, 9]),
+        (STAGE, "<a\u{2028}/*", &[17, 5]),
+        (STAGE, "<a b=\u{A0}!", &[3, 7]),
+        (STAGE, "<a //{\u{2029}!", &[3, 9]),
+        (RUN, "<a><\u{A0}/a><b !", &[3, 12]),
     ];
     all_compared(true, &cases);
 }
@@ -144,10 +181,13 @@ fn braces_in_texts_count() {
 
 #[test]
 fn three_at_bytes_that_are_left_out() {
-    let cases: [Case; 3] = [
+    let cases: [Case; 6] = [
         (STAGE, "<\\u0061/>", &[3, 1]),
         (STAGE, "<aé/>", &[3, 2]),
-        (STAGE, "<a//b\u{2028}", &[3, 5]),
+        (STAGE, "<a\u{85}/>", &[3, 2]),
+        (STAGE, "<a\u{180E}/>", &[3, 2]),
+        (STAGE, "<a\u{A0}\u{200B}/>", &[3, 4]),
+        (STAGE, "<\u{2060}a/>", &[3, 1]),
     ];
     all_compared(false, &cases);
 }
@@ -164,10 +204,12 @@ fn three_before_the_first_tag() {
 
 #[test]
 fn the_outermost_closing_tag_of_a_run() {
-    let left_out: [Case; 3] = [
+    let left_out: [Case; 5] = [
         (RUN, "</>+<>", &[3, 0]),
         (RUN, "<a></a>{b}<c/></", &[3, 14]),
         (RUN, "< /a>", &[3, 0]),
+        (RUN, "<\u{A0}/a>", &[3, 0]),
+        (RUN, "<a><\u{A0}/a></", &[3, 9]),
     ];
     all_compared(false, &left_out);
     let others: [Case; 2] = [(RUN, "<a b=<c/><=", &[3, 9]), (RUN, "<a></!", &[3, 5])];
@@ -176,7 +218,7 @@ fn the_outermost_closing_tag_of_a_run() {
 
 #[test]
 fn blanks_before_a_string_with_a_backslash_or_a_line_end() {
-    let cases: [Case; 9] = [
+    let cases: [Case; 13] = [
         (STAGE, "<a b= \"\\\"/>", &[]),
         (STAGE, "<a b=\n'x\ny'/>", &[]),
         (STAGE, "<a b=/**/\"\r\"/>", &[]),
@@ -186,14 +228,20 @@ fn blanks_before_a_string_with_a_backslash_or_a_line_end() {
         (STAGE, "<a b= \"\\\"/*", &[17, 9]),
         (STAGE, "<a b= \"\\\">{'c", &[18, 11]),
         (RUN, "<a b=<c d= \"\\\"/>", &[4, 16]),
+        (STAGE, "<a b=\u{A0}\"\\\"/>", &[]),
+        (STAGE, "<a b=\u{FEFF}'x\ny'/>", &[]),
+        (STAGE, "<a b=//=\u{2028}'\\'/>", &[]),
+        (STAGE, "<a b=\u{2029}\"\\", &[5, 8]),
     ];
     all_compared(false, &cases);
 }
 
 #[test]
 fn strings_with_no_blank_before_or_nothing_odd_inside() {
-    let cases: [Case; 8] = [
+    let cases: [Case; 10] = [
         (STAGE, "<a b =\"\\\"/>", &[]),
+        (STAGE, "<a b\u{A0}=\"\\\"/>", &[]),
+        (STAGE, "<a\u{2028}b='\n\u{A0}'/>", &[]),
         (STAGE, "<a b= \"x\"/>", &[]),
         (STAGE, "<a b=\"\n\"/>", &[]),
         (RUN, "b= \"\\\"", &[]),
@@ -208,7 +256,7 @@ fn strings_with_no_blank_before_or_nothing_odd_inside() {
 #[test]
 fn what_is_open() {
     use Inside::{Around, Braces, Children, Tag};
-    let cases: [(Reading, &str, &[Inside]); 14] = [
+    let cases: [(Reading, &str, &[Inside]); 19] = [
         (STAGE, " /*<*/", &[Around]),
         (STAGE, "<", &[Around, Tag]),
         (STAGE, "<a>", &[Around, Children]),
@@ -223,6 +271,11 @@ fn what_is_open() {
         (RUN, "<a b=<c></c>", &[Children, Tag]),
         (RUN, "<a b=<c></c>/>", &[Children]),
         (RUN, "<a b=<c/>>", &[Children, Children]),
+        (STAGE, "\u{FEFF}//\u{2028}<", &[Around, Tag]),
+        (STAGE, "<\u{A0}a\u{3000}/\u{2029}>", &[Around]),
+        (STAGE, "<><\u{A0}/\u{A0}>", &[Around]),
+        (RUN, "{//}\u{A0}\u{85}", &[Children, Braces]),
+        (RUN, "{//}\u{2029}}", &[Children]),
     ];
     for (reading, text, open) in cases {
         let item = item(reading, text);

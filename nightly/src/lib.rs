@@ -1,6 +1,7 @@
 //! Night runs: see README.md.
 
 pub mod answer;
+pub mod blank;
 pub mod damage;
 pub mod difference;
 pub mod domain;

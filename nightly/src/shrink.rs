@@ -1,5 +1,6 @@
 //! Makes an item smaller as long as its difference stays of the same class.
 
+use crate::blank::blank_length;
 use crate::item::Item;
 use crate::parts::{parts, Part};
 
@@ -217,7 +218,7 @@ fn plainer_words(bytes: &[u8]) -> Vec<Edit> {
     let words = words(bytes);
     for (start, end) in &words {
         let word = &bytes[*start..*end];
-        let instead: &[&'static [u8]] = match word[0].is_ascii_whitespace() {
+        let instead: &[&'static [u8]] = match blank_length(word) > 0 {
             true => &[b" "],
             false => &[b"a", b"b"],
         };
@@ -238,9 +239,9 @@ fn plainer_words(bytes: &[u8]) -> Vec<Edit> {
 fn words(bytes: &[u8]) -> Vec<(usize, usize)> {
     let mut words = Vec::new();
     let mut start = 0;
-    for word in bytes.chunk_by(|one, other| class(*one) == class(*other)) {
+    for word in classes(bytes).chunk_by(|one, other| one == other) {
         let end = start + word.len();
-        if class(word[0]) != Class::Mark {
+        if word[0] != Class::Mark {
             words.push((start, end));
         }
         start = end;
@@ -248,19 +249,27 @@ fn words(bytes: &[u8]) -> Vec<(usize, usize)> {
     words
 }
 
-#[derive(PartialEq, Eq)]
+#[derive(Clone, Copy, PartialEq, Eq)]
 enum Class {
     Word,
     Blank,
     Mark,
 }
 
-fn class(byte: u8) -> Class {
-    match byte {
-        b'a'..=b'z' | b'A'..=b'Z' | b'0'..=b'9' | b'_' | b'$' | 0x80.. => Class::Word,
-        b'\t'..=b'\r' | b' ' => Class::Blank,
-        _ => Class::Mark,
+/// The class of each byte: of a blank of several bytes, all are blank.
+fn classes(bytes: &[u8]) -> Vec<Class> {
+    let mut classes = Vec::with_capacity(bytes.len());
+    while let Some(byte) = bytes.get(classes.len()) {
+        let class = match byte {
+            b'a'..=b'z' | b'A'..=b'Z' | b'0'..=b'9' | b'_' | b'$' | 0x80.. => Class::Word,
+            _ => Class::Mark,
+        };
+        match blank_length(&bytes[classes.len()..]) {
+            0 => classes.push(class),
+            length => classes.resize(classes.len() + length, Class::Blank),
+        }
     }
+    classes
 }
 
 fn plainer_bytes(bytes: &[u8]) -> Vec<Edit> {
@@ -336,8 +345,15 @@ mod tests {
     }
 
     #[test]
+    fn blanks_beyond_ascii_become_a_space() {
+        let two_words = |text: &str| text.split_whitespace().count() == 2;
+        assert_eq!(remains("ab\u{2028}\u{A0}cd", two_words), "a a");
+    }
+
+    #[test]
     fn words_become_plain() {
         assert_eq!(words(b"ab <c_1\n\n/>"), [(0, 2), (2, 3), (4, 7), (7, 9)]);
+        assert_eq!(words("aé\u{A0} b".as_bytes()), [(0, 3), (3, 6), (6, 7)]);
         assert_eq!(
             remains("<view\n=", |text| text.len() > 2
                 && text.starts_with('<')
