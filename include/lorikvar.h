@@ -6,6 +6,10 @@
  * input. Two more calls say where the bytes of a record or of a span stand in the input. "Document 01" below is the
  * paper that defines the language; crates/jsx/specs states it.
  *
+ * BLANKS are comments and ECMA-262's white space and line terminators: tab, LF, VT, FF, CR, space, U+00A0, U+1680,
+ * U+2000 to U+200A, U+2028, U+2029, U+202F, U+205F, U+3000, U+FEFF. A byte order mark in front of a stage is one of
+ * them: it is not taken off, and offsets count its bytes. In a run it is text.
+ *
  * Any bytes get an answer. A refusal is the whole answer: it writes no word of the table, and there is no half-read
  * tree.
  *

@@ -7,6 +7,10 @@
 //! whole answer: there is no half-read tree. "Document 01" in these pages is the paper that defines the
 //! language.
 //!
+//! **Blanks** are comments and ECMA-262's white space and line terminators, U+00A0, U+FEFF, U+2028 and U+2029 among
+//! them. A byte order mark in front of a stage is one of them: it is not taken off, and offsets count its bytes. In
+//! a run it is text.
+//!
 //! ```
 //! use lorikvar::{read_stage, Kind, Refusal, ROW_WORDS};
 //!

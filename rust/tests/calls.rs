@@ -138,6 +138,76 @@ fn a_broken_string_shows_its_piece() {
     refused_as_stage(b"<a>{\"b\\\n", unexpected(6, 6));
 }
 
+fn rows_of_stage(input: &str) -> Vec<Vec<u32>> {
+    let words = read_stage_vec(input.as_bytes()).unwrap().into_words();
+    words.chunks(ROW_WORDS).map(<[u32]>::to_vec).collect()
+}
+
+/// Request 1 of document 02: a blank is passed, and counts its bytes.
+#[test]
+fn blanks_of_ecma_262_are_passed() {
+    assert_eq!(
+        rows_of_stage("<a\u{A0}b/>"),
+        [
+            [1, 0, 7, NO_PARENT, 5, 0, 0],
+            [18, 0, 7, 0, 5, 0, 1],
+            [3, 1, 2, 1, 3, 0, 2],
+            [8, 4, 5, 1, 5, 0, 2],
+            [16, 4, 5, 3, 5, 0, 3],
+        ]
+    );
+    assert_eq!(
+        rows_of_stage("\u{FEFF}<a/>"),
+        [
+            [1, 3, 7, NO_PARENT, 3, 0, 0],
+            [18, 3, 7, 0, 3, 0, 1],
+            [3, 4, 5, 1, 3, 0, 2],
+        ]
+    );
+    assert_eq!(rows_of_stage("<a//x\u{2028}b/>")[3], [8, 8, 9, 1, 5, 0, 2]);
+    assert_eq!(check_stage("<a/>//\u{2029}".as_bytes()), Ok(3));
+    refused_as_stage("\u{FEFF}".as_bytes(), Refusal::EndOfInput { at: 3 });
+    let less = span(9, 10);
+    refused_as_stage("<a/>//\u{2028}<b/>".as_bytes(), Refusal::Adjacent { less });
+}
+
+#[test]
+fn all_25_blanks_and_no_other_character() {
+    let blank = |character: &char| check_stage(format!("<a/{character}>").as_bytes()) == Ok(3);
+    let found: Vec<char> = ('\0'..=char::MAX)
+        .filter(|character| *character != '>')
+        .filter(blank)
+        .collect();
+    // White_Space of Unicode is ECMA-262's but for two characters.
+    let mut expected: Vec<char> = ('\0'..=char::MAX)
+        .filter(|character| character.is_whitespace() && *character != '\u{85}')
+        .collect();
+    expected.push('\u{FEFF}');
+    assert_eq!(found, expected);
+    assert_eq!(found.len(), 25);
+}
+
+/// Request 1 of document 02: what only looks like a blank is refused at its first byte.
+#[test]
+fn near_misses_are_no_blanks() {
+    for near in ['\u{85}', '\u{180E}', '\u{200B}', '\u{2060}'] {
+        refused_as_stage(format!("<a{near}/>").as_bytes(), unexpected(2, 2));
+        refused_as_stage(
+            format!("<a/>{near}").as_bytes(),
+            Refusal::AfterStage { at: 4 },
+        );
+    }
+}
+
+/// In child position nothing is a blank.
+#[test]
+fn blanks_in_texts_are_text() {
+    let owned = read_run_vec("\u{FEFF}\u{2028}".as_bytes()).unwrap();
+    let texts: Vec<&str> = owned.table().outermost().map(|text| text.text()).collect();
+    assert_eq!(texts, ["\u{FEFF}\u{2028}"]);
+    refused_as_run("<\u{A0}/a>".as_bytes(), unexpected(0, 0));
+}
+
 #[test]
 fn limits_of_length_and_depth() {
     let mut long = vec![b' '; MOST_BYTES + 1];

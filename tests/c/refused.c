@@ -49,6 +49,16 @@ static const struct refused cases[] = {
     {'s', "<a>{\"b\r\n\"}</a>", LORIKVAR_REFUSAL_UNEXPECTED, {4, 6, 0, 0}},
     {'r', "{'\n", LORIKVAR_REFUSAL_UNEXPECTED, {1, 2, 0, 0}},
     {'s', "<a>{\"b\\\n", LORIKVAR_REFUSAL_UNEXPECTED, {6, 6, 0, 0}},
+    /* ECMA-262's blanks are passed, and count their bytes; what only looks like one is no blank. */
+    {'s', "\xEF\xBB\xBF", LORIKVAR_REFUSAL_END_OF_INPUT, {3, 3, 0, 0}},
+    {'s', "<a b={\xE3\x80\x80}/>", LORIKVAR_REFUSAL_EMPTY_VALUE, {5, 10, 0, 0}},
+    {'s', "<a/>//\xE2\x80\xA8<b/>", LORIKVAR_REFUSAL_ADJACENT, {9, 10, 0, 0}},
+    {'s', "<a/>\xC2\xA0x", LORIKVAR_REFUSAL_AFTER_STAGE, {6, 6, 0, 0}},
+    {'s', "<a\xE2\x80\x8B/>", LORIKVAR_REFUSAL_UNEXPECTED, {2, 2, 0, 0}},
+    {'s', "<a\xC2\x85/>", LORIKVAR_REFUSAL_UNEXPECTED, {2, 2, 0, 0}},
+    {'s', "<a/>\xE2\x80\x8B", LORIKVAR_REFUSAL_AFTER_STAGE, {4, 4, 0, 0}},
+    {'s', "<a\xE2\x80", LORIKVAR_REFUSAL_NOT_UTF8, {2, 2, 0, 0}},
+    {'r', "<\xC2\xA0/a>", LORIKVAR_REFUSAL_UNEXPECTED, {0, 0, 0, 0}},
     /* Runs. */
     {'r', "</>", LORIKVAR_REFUSAL_UNEXPECTED, {0, 0, 0, 0}},
     {'r', "a< /b>", LORIKVAR_REFUSAL_UNEXPECTED, {1, 1, 0, 0}},

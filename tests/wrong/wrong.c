@@ -2,6 +2,10 @@
  * names right_.. here. What is wrong stands beside each number. */
 #include <lorikvar.h>
 
+#include <string.h>
+
+#define SHORT 16
+
 uint32_t right_check_stage(const uint8_t *input, size_t length, size_t values[LORIKVAR_VALUES]);
 uint32_t right_check_run(const uint8_t *input, size_t length, size_t values[LORIKVAR_VALUES]);
 uint32_t right_read_stage(const uint8_t *input, size_t length, uint32_t *table, size_t words,
@@ -40,20 +44,41 @@ static uint32_t said(uint32_t number, size_t *values)
     return number;
 }
 
+/* A fault in what is a blank of a short stage: other bytes are read than the input, further on in it or in the room. */
+static const uint8_t *blanked(const uint8_t *input, size_t *length, uint8_t room[SHORT])
+{
+    size_t k;
+    if (*length < 3 || *length > SHORT)
+        return input;
+    if (WRONG == 8 && memcmp(input, "\xEF\xBB\xBF", 3) == 0) { /* a byte order mark is taken off */
+        *length -= 3;
+        return input + 3;
+    }
+    if (WRONG != 9) /* U+200B is a blank */
+        return input;
+    memcpy(room, input, *length);
+    for (k = 0; k + 3 <= *length; k++)
+        if (memcmp(room + k, "\xE2\x80\x8B", 3) == 0)
+            memset(room + k, ' ', 3);
+    return room;
+}
+
 uint32_t lorikvar_check_stage(const uint8_t *input, size_t length, size_t values[LORIKVAR_VALUES])
 {
-    if (WRONG == 8) /* a run's check for a stage's */
+    uint8_t room[SHORT];
+    if (WRONG == 10) /* a run's check for a stage's */
         return right_check_run(input, length, values);
-    if (WRONG == 9) /* a byte behind the input is looked at */
+    if (WRONG == 11) /* a byte behind the input is looked at */
         look(input, length);
-    if (WRONG == 10 && length == LORIKVAR_MOST_BYTES) /* the longest input is too long */
+    if (WRONG == 12 && length == LORIKVAR_MOST_BYTES) /* the longest input is too long */
         return right_check_stage(input, length + 1, values);
+    input = blanked(input, &length, room);
     return said(right_check_stage(input, length, values), values);
 }
 
 uint32_t lorikvar_check_run(const uint8_t *input, size_t length, size_t values[LORIKVAR_VALUES])
 {
-    if (WRONG == 11 && length == 0) /* the empty run is refused */
+    if (WRONG == 13 && length == 0) /* the empty run is refused */
         return right_check_stage(input, length, values);
     return said(right_check_run(input, length, values), values);
 }
@@ -68,17 +93,17 @@ static uint32_t *word(uint32_t *table, size_t record, enum lorikvar_word place)
 static uint32_t wrote(uint32_t number, uint32_t *table, size_t words, const size_t *values)
 {
     size_t k;
-    if (WRONG == 12 && number != 0 && words > 0) /* a refusal writes a word */
+    if (WRONG == 14 && number != 0 && words > 0) /* a refusal writes a word */
         table[0] = 1;
-    if (WRONG == 13 && number == 0 && words > LORIKVAR_ROW_WORDS * values[0]) /* a word beyond the last record */
+    if (WRONG == 15 && number == 0 && words > LORIKVAR_ROW_WORDS * values[0]) /* a word beyond the last record */
         *word(table, values[0], LORIKVAR_WORD_KIND) = 0;
-    if (WRONG == 14 && number == 0 && values[0] > 2) /* the last record's parent is wrong */
+    if (WRONG == 16 && number == 0 && values[0] > 2) /* the last record's parent is wrong */
         *word(table, values[0] - 1, LORIKVAR_WORD_PARENT) = 0;
-    if (WRONG == 15 && number == 0 && values[0] > 0) /* a missing parent is 0 */
+    if (WRONG == 17 && number == 0 && values[0] > 0) /* a missing parent is 0 */
         *word(table, 0, LORIKVAR_WORD_PARENT) = 0;
-    for (k = 0; WRONG == 16 && number == 0 && k < values[0]; k++) /* a record is its own ancestor */
+    for (k = 0; WRONG == 18 && number == 0 && k < values[0]; k++) /* a record is its own ancestor */
         ++*word(table, k, LORIKVAR_WORD_DEPTH);
-    if (WRONG == 17 && number == 0 && values[0] > 2) /* the last record's depth is that of an outermost one */
+    if (WRONG == 19 && number == 0 && values[0] > 2) /* the last record's depth is that of an outermost one */
         *word(table, values[0] - 1, LORIKVAR_WORD_DEPTH) = 0;
     return number;
 }
@@ -86,26 +111,28 @@ static uint32_t wrote(uint32_t number, uint32_t *table, size_t words, const size
 uint32_t lorikvar_read_stage(const uint8_t *input, size_t length, uint32_t *table, size_t words,
                              size_t values[LORIKVAR_VALUES])
 {
-    if (WRONG == 18) /* records rounded up */
+    uint8_t room[SHORT];
+    if (WRONG == 20) /* records rounded up */
         words = (words + LORIKVAR_ROW_WORDS - 1) / LORIKVAR_ROW_WORDS * LORIKVAR_ROW_WORDS;
-    if (WRONG == 19) /* the table is looked at before its length is */
+    if (WRONG == 21) /* the table is looked at before its length is */
         look((const uint8_t *)table, 0);
+    input = blanked(input, &length, room);
     return wrote(said(right_read_stage(input, length, table, words, values), values), table, words, values);
 }
 
 uint32_t lorikvar_read_run(const uint8_t *input, size_t length, uint32_t *table, size_t words,
                            size_t values[LORIKVAR_VALUES])
 {
-    volatile uint8_t more[WRONG == 20 ? 40000 : 1]; /* more stack than is said */
+    volatile uint8_t more[WRONG == 22 ? 40000 : 1]; /* more stack than is said */
     more[0] = 0;
     return wrote(said(right_read_run(input, length, table, words, values), values), table, words, values) + more[0];
 }
 
 bool lorikvar_span_bytes(const uint8_t *input, size_t length, size_t start, size_t end, size_t part[LORIKVAR_PART])
 {
-    if (WRONG == 21) /* an end one past the input is in range */
+    if (WRONG == 23) /* an end one past the input is in range */
         return right_span_bytes(input, length + 1, start, end, part);
-    if (WRONG == 22 && start > end) /* nothing is said of a span that ends before it starts */
+    if (WRONG == 24 && start > end) /* nothing is said of a span that ends before it starts */
         return false;
     return right_span_bytes(input, length, start, end, part);
 }
@@ -113,11 +140,11 @@ bool lorikvar_span_bytes(const uint8_t *input, size_t length, size_t start, size
 bool lorikvar_record_bytes(const uint8_t *input, size_t length, const uint32_t *table, size_t words, size_t count,
                            size_t number, size_t part[LORIKVAR_PART])
 {
-    if (WRONG == 23) /* the count is passed over */
+    if (WRONG == 25) /* the count is passed over */
         count = SIZE_MAX;
-    if (WRONG == 24) /* a record's span is not held against the input */
+    if (WRONG == 26) /* a record's span is not held against the input */
         length = SIZE_MAX;
-    if (WRONG == 25) /* the record before */
+    if (WRONG == 27) /* the record before */
         number = number > 0 ? number - 1 : 0;
     return right_record_bytes(input, length, table, words, count, number, part);
 }
