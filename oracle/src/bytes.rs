@@ -16,9 +16,9 @@ fn led_by(lead: u8) -> Option<(usize, u8, u8)> {
     }
 }
 
-/// The length of the good sequence at the beginning of `rest`, which isn't empty.
+/// The length of the good sequence at the beginning of `rest`; none begins where nothing is left.
 fn good_sequence(rest: &[u8]) -> Option<usize> {
-    let (length, low, high) = led_by(rest[0])?;
+    let (length, low, high) = led_by(*rest.first()?)?;
     let sequence = rest.get(..length)?;
     let second_is_good = length == 1 || (low..=high).contains(&sequence[1]);
     // D: "Other continuation bytes are 80-BF."
@@ -38,9 +38,34 @@ pub fn where_no_good_sequence_begins(input: &[u8]) -> Option<usize> {
     None
 }
 
-/// D: "Blanks are tab, LF, VT, FF, CR and space, and comments" (the bytes; comments are the cursor's).
-pub fn is_blank_byte(byte: u8) -> bool {
-    matches!(byte, b'\t' | b'\n' | 0x0B | 0x0C | b'\r' | b' ')
+/// The length of the character at the beginning of `rest`, where it is in the class.
+/// The tests run 2 before the reading: what is read is good UTF-8.
+pub fn character_of(rest: &[u8], in_class: fn(char) -> bool) -> Option<usize> {
+    let length = good_sequence(rest)?;
+    let character = std::str::from_utf8(&rest[..length]).ok()?.chars().next()?;
+    in_class(character).then_some(length)
+}
+
+/// D2: "Blank characters become those of ECMA-262: its white space (tab, VT, FF, space, U+00A0, U+FEFF and the Unicode
+/// class Zs) and its line terminators". (Comments are the cursor's.)
+pub fn is_blank(character: char) -> bool {
+    matches!(character, '\t' | '\u{B}' | '\u{C}' | '\u{FEFF}')
+        || is_space_separator(character)
+        || is_line_terminator(character)
+}
+
+/// 1.1: the Unicode class Zs, the same since Unicode 6.3; space and U+00A0 are of it.
+fn is_space_separator(character: char) -> bool {
+    let among_spaces_of_a_width = ('\u{2000}'..='\u{200A}').contains(&character);
+    let others = [
+        ' ', '\u{A0}', '\u{1680}', '\u{202F}', '\u{205F}', '\u{3000}',
+    ];
+    among_spaces_of_a_width || others.contains(&character)
+}
+
+/// D2: "its line terminators (LF, CR, U+2028, U+2029)".
+pub fn is_line_terminator(character: char) -> bool {
+    matches!(character, '\n' | '\r' | '\u{2028}' | '\u{2029}')
 }
 
 /// D: "a letter, `_` or `$`". A7: letters are the ASCII letters.
@@ -91,10 +116,24 @@ mod tests {
     #[test]
     fn classes() {
         let in_class = |f: fn(u8) -> bool| (0..=255u8).filter(|&b| f(b)).count();
-        assert_eq!(in_class(is_blank_byte), 6);
         assert_eq!(in_class(begins_a_name), 54);
         assert_eq!(in_class(continues_a_name), 64);
         assert_eq!(in_class(continues_a_part), 65);
         assert_eq!(in_class(is_text), 252);
+        let characters = |f: fn(char) -> bool| ('\0'..=char::MAX).filter(|&c| f(c)).count();
+        assert_eq!(characters(is_space_separator), 17);
+        assert_eq!(characters(is_line_terminator), 4);
+        assert_eq!(characters(is_blank), 25);
+    }
+
+    #[test]
+    fn a_character_of_a_class_has_its_length() {
+        let blank = |rest: &[u8]| character_of(rest, is_blank);
+        assert_eq!(blank(b" b"), Some(1));
+        assert_eq!(blank("\u{A0}b".as_bytes()), Some(2));
+        assert_eq!(blank("\u{FEFF}".as_bytes()), Some(3));
+        assert_eq!(blank("b ".as_bytes()), None);
+        assert_eq!(blank("\u{200B}".as_bytes()), None);
+        assert_eq!(blank(b""), None);
     }
 }

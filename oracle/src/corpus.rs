@@ -1,5 +1,6 @@
 //! A list of inputs, the same on every machine, with this oracle's answers.
 
+use crate::blanks;
 use crate::cases::Case;
 use crate::deep;
 use crate::forms::case_form;
@@ -13,15 +14,15 @@ use std::collections::BTreeMap;
 
 /// The faults that the writer can plant.
 const PLANTED: [u32; 15] = [2, 3, 4, 5, 6, 7, 8, 9, 10, 11, 12, 13, 16, 17, 18];
-const VALID: usize = 300;
+const VALID: usize = 240;
 const PLANTED_EACH: usize = 50;
-const DAMAGED_EACH: usize = 220;
-const DEEP_WHOLE: usize = 160;
+const DAMAGED_EACH: usize = 176;
+const DEEP_WHOLE: usize = 126;
 const DEEP_TAILS: usize = 320;
 
-const ALPHABET: &[u8] = b"<>/{}a.-=\"'!() ";
+const ALPHABET: &str = "<>/{}a.-=\"'!() ";
 /// More bytes, for the short inputs after a beginning.
-const MORE: &[u8] = b"<>/{}a.-=\"',?:|&*+[(!1 ";
+const MORE: &str = "<>/{}a.-=\"',?:|&*+[(!1 ";
 
 /// Beginnings of stages, each a place where other tokens are allowed.
 const BEGINNINGS: [(&str, &str); 12] = [
@@ -40,13 +41,32 @@ const BEGINNINGS: [(&str, &str); 12] = [
 ];
 
 /// Bytes that close, break or open a string or a comment.
-const QUOTES_AND_LINE_ENDS: &[u8] = b"'\"\\\n\r*/";
+const QUOTES_AND_LINE_ENDS: &str = "'\"\\\n\r*/";
 
 /// Beginnings that leave a string in braces, a quoted attribute string or a comment open.
 const OPEN_BEGINNINGS: [(&str, &str); 3] = [
     ("open-string", "<a>{'"),
     ("open-quoted", "<a b='"),
     ("open-comment", "<a/*"),
+];
+
+/// What a `//` comment may hold or end with, and what may follow it.
+const IN_AND_BEHIND_LINES: [&str; 9] = [
+    "\u{2028}", "\u{2029}", "\n", "\r", "\u{A0}", "\u{200B}", "/", "*", ">",
+];
+
+/// Beginnings that leave a `//` comment open: before a stage, in a tag, in braces, behind a stage.
+const LINE_BEGINNINGS: [(&str, &str); 4] = [
+    ("line-before", "//"),
+    ("line-tag", "<a//"),
+    ("line-braces", "<a>{//"),
+    ("line-after", "<a/>//"),
+];
+
+/// Blanks, near misses and tokens.
+const BLANKS_AND_TOKENS: [&str; 12] = [
+    "\u{A0}", "\u{FEFF}", "\u{2028}", "\u{3000}", " ", "\u{85}", "\u{2060}", "b", "=", ">", "//",
+    "\n",
 ];
 
 pub fn corpus() -> Vec<Case> {
@@ -58,23 +78,40 @@ pub fn corpus() -> Vec<Case> {
     damaged(&mut cases);
     deep_ones(&mut cases);
     short(&mut cases);
-    short_after_beginnings(&mut cases, &BEGINNINGS, MORE, 2);
-    short_after_beginnings(&mut cases, &OPEN_BEGINNINGS, QUOTES_AND_LINE_ENDS, 3);
+    short_after_beginnings(&mut cases, &BEGINNINGS, &each_byte(MORE), 2);
+    short_after_beginnings(
+        &mut cases,
+        &OPEN_BEGINNINGS,
+        &each_byte(QUOTES_AND_LINE_ENDS),
+        3,
+    );
+    short_after_beginnings(&mut cases, &LINE_BEGINNINGS, &IN_AND_BEHIND_LINES, 2);
+    blanks_in_places(&mut cases);
+    blanks_and_neighbours(&mut cases);
     cases
 }
 
 /// One input by its seed: valid, with a planted fault, some bytes, the same behind a beginning or behind one that
-/// leaves something open, a deep one's end, or valid and then damaged.
+/// leaves something open, blanks and tokens behind a beginning, a deep one's end, or valid and then damaged.
 pub fn random(seed: u64) -> (Reading, Vec<u8>) {
     let mut random = Random::seeded(seed);
     let reading = if random.once_in(2) { Stage } else { Run };
-    let bytes = match random.below(11) {
+    let bytes = match random.below(13) {
         0 => write(seed, reading, None).bytes,
         1 => return planted_by(&mut random, seed),
-        2 => some_bytes(&mut random, MORE),
-        3 => behind_one_of(&mut random, &BEGINNINGS, MORE),
-        4 => behind_one_of(&mut random, &OPEN_BEGINNINGS, QUOTES_AND_LINE_ENDS),
+        2 => some_of(&mut random, &each_byte(MORE)),
+        3 => behind_one_of(&mut random, &BEGINNINGS, &each_byte(MORE)),
+        4 => behind_one_of(
+            &mut random,
+            &OPEN_BEGINNINGS,
+            &each_byte(QUOTES_AND_LINE_ENDS),
+        ),
         5 => deep::tail(&mut random),
+        6 => behind_one_of(&mut random, &LINE_BEGINNINGS, &IN_AND_BEHIND_LINES),
+        7 => {
+            let pieces = [&blanks::characters()[..], &BLANKS_AND_TOKENS].concat();
+            behind_one_of(&mut random, &BEGINNINGS, &pieces)
+        }
         _ => {
             let mut bytes = write(seed, reading, None).bytes;
             for _ in 0..=random.below(2) {
@@ -103,16 +140,15 @@ fn planted_by(random: &mut Random, seed: u64) -> (Reading, Vec<u8>) {
     }
 }
 
-fn behind_one_of(random: &mut Random, beginnings: &[(&str, &str)], alphabet: &[u8]) -> Vec<u8> {
+fn behind_one_of(random: &mut Random, beginnings: &[(&str, &str)], pieces: &[&str]) -> Vec<u8> {
     let (_, beginning) = beginnings[random.below(beginnings.len())];
-    [beginning.as_bytes(), &some_bytes(random, alphabet)].concat()
+    [beginning.as_bytes(), &some_of(random, pieces)].concat()
 }
 
-fn some_bytes(random: &mut Random, alphabet: &[u8]) -> Vec<u8> {
+fn some_of(random: &mut Random, pieces: &[&str]) -> Vec<u8> {
     let length = random.below(10);
-    (0..length)
-        .map(|_| alphabet[random.below(alphabet.len())])
-        .collect()
+    let some: String = (0..length).map(|_| random.one_of(pieces)).collect();
+    some.into_bytes()
 }
 
 /// The count of cases by class, as rows of a table, with the sum.
@@ -231,7 +267,7 @@ fn planted(cases: &mut Vec<Case>) {
 
 type Damage = fn(&mut Random, &[u8]) -> Vec<u8>;
 
-const DAMAGES: [(&str, Damage); 10] = [
+const DAMAGES: [(&str, Damage); 11] = [
     ("damaged-lost", lost),
     ("damaged-flipped", flipped),
     ("damaged-changed", changed),
@@ -241,6 +277,7 @@ const DAMAGES: [(&str, Damage); 10] = [
     ("damaged-put-in", put_in),
     ("damaged-swapped", swapped),
     ("damaged-opened", opened),
+    ("damaged-blank", blanked),
     ("damaged-utf8", utf8),
 ];
 
@@ -283,7 +320,7 @@ fn changed(random: &mut Random, bytes: &[u8]) -> Vec<u8> {
     let mut bytes = bytes.to_vec();
     if !bytes.is_empty() {
         let at = random.below(bytes.len());
-        bytes[at] = MORE[random.below(MORE.len())];
+        bytes[at] = MORE.as_bytes()[random.below(MORE.len())];
     }
     bytes
 }
@@ -307,7 +344,7 @@ fn doubled(random: &mut Random, bytes: &[u8]) -> Vec<u8> {
 fn put_in(random: &mut Random, bytes: &[u8]) -> Vec<u8> {
     let at = random.below(bytes.len() + 1);
     let new: Vec<u8> = (0..=random.below(2))
-        .map(|_| MORE[random.below(MORE.len())])
+        .map(|_| MORE.as_bytes()[random.below(MORE.len())])
         .collect();
     [&bytes[..at], &new, &bytes[at..]].concat()
 }
@@ -342,8 +379,29 @@ fn opened(random: &mut Random, bytes: &[u8]) -> Vec<u8> {
     }
 }
 
+/// A blank character beyond ASCII, a near miss, or a `//` comment that ends by a line end beyond ASCII: in place of a
+/// space, or before or behind punctuation.
+fn blanked(random: &mut Random, bytes: &[u8]) -> Vec<u8> {
+    let is = |at: usize, any: &[u8]| bytes.get(at).is_some_and(|byte| any.contains(byte));
+    let marks = b"<>/{}=:.,?()[]!+-*|&'\"";
+    let border = |at: &usize| *at == 0 || is(*at - 1, marks) || is(*at, marks);
+    let spaces: Vec<usize> = (0..bytes.len()).filter(|at| is(*at, b" ")).collect();
+    let borders: Vec<usize> = (0..=bytes.len()).filter(border).collect();
+    let new = match random.below(4) {
+        0 => random.one_of(&blanks::NEAR_MISSES),
+        1 => random.one_of(&["//\u{2028}", "//x\u{2029}", "// \u{A0}\r\u{2028}"]),
+        _ => random.one_of(&blanks::BLANKS_BEYOND_ASCII),
+    };
+    if !spaces.is_empty() && random.once_in(2) {
+        let at = spaces[random.below(spaces.len())];
+        return [&bytes[..at], new.as_bytes(), &bytes[at + 1..]].concat();
+    }
+    let at = borders[random.below(borders.len())];
+    [&bytes[..at], new.as_bytes(), &bytes[at..]].concat()
+}
+
 /// Sequences at both ends of what is good and of what isn't.
-const SEQUENCES: [&[u8]; 22] = [
+const SEQUENCES: [&[u8]; 26] = [
     b"\x7F",
     b"\x80",
     b"\xBF",
@@ -366,6 +424,10 @@ const SEQUENCES: [&[u8]; 22] = [
     b"\xF5\x80\x80\x80",
     b"\xF1\x80\x80",
     b"\xE2\x80",
+    b"\xC2",
+    b"\xE1\x9A",
+    b"\xE3\x80",
+    b"\xEF\xBB",
 ];
 
 fn utf8(random: &mut Random, bytes: &[u8]) -> Vec<u8> {
@@ -402,37 +464,73 @@ fn deep_ones(cases: &mut Vec<Case>) {
 /// Every input of at most three bytes of the alphabet.
 fn short(cases: &mut Vec<Case>) {
     for length in 0..=3 {
-        for input in all_of_length(ALPHABET, length) {
+        for input in all_of_length(&each_byte(ALPHABET), length) {
             both_readings(cases, "short", &input);
         }
     }
 }
 
-/// Every so many bytes of the alphabet after each of the beginnings.
+/// Every so many pieces after each of the beginnings.
 fn short_after_beginnings(
     cases: &mut Vec<Case>,
     beginnings: &[(&str, &str)],
-    alphabet: &[u8],
+    pieces: &[&str],
     length: usize,
 ) {
     for (name, beginning) in beginnings {
         let class = format!("short-{name}");
-        for tail in all_of_length(alphabet, length) {
+        for tail in all_of_length(pieces, length) {
             let input = [beginning.as_bytes(), &tail].concat();
             cases.push(Case::answered(Stage, &class, input));
         }
     }
 }
 
-fn all_of_length(alphabet: &[u8], length: usize) -> Vec<Vec<u8>> {
+/// The bytes of an alphabet as pieces.
+fn each_byte(alphabet: &str) -> Vec<&str> {
+    (0..alphabet.len()).map(|at| &alphabet[at..=at]).collect()
+}
+
+fn all_of_length(pieces: &[&str], length: usize) -> Vec<Vec<u8>> {
     let mut all = vec![Vec::new()];
     for _ in 0..length {
-        all = all
-            .iter()
-            .flat_map(|input| alphabet.iter().map(|&byte| [&input[..], &[byte]].concat()))
-            .collect();
+        let and_one_more = |input: &Vec<u8>| {
+            let input = input.clone();
+            let more = move |piece: &&str| [&input[..], piece.as_bytes()].concat();
+            pieces.iter().map(more)
+        };
+        all = all.iter().flat_map(and_one_more).collect();
     }
     all
+}
+
+/// Each character of request 1 at each of its places, refused behind what is read of it; and each frame as it stands,
+/// the characters taking turns.
+fn blanks_in_places(cases: &mut Vec<Case>) {
+    let characters = blanks::characters();
+    let mut turns = characters.iter().cycle();
+    for (class, reading, frames, end) in blanks::PLACES {
+        for frame in frames {
+            for character in &characters {
+                let input = blanks::filled(&[frame, end].concat(), character);
+                cases.push(Case::answered(reading, class, input));
+            }
+            let character = turns.next().expect("a turn");
+            let input = blanks::filled(frame, character);
+            cases.push(Case::answered(reading, "blank-whole", input));
+        }
+    }
+}
+
+/// Characters one byte away from a blank, in a tag, and blanks cut in their bytes.
+fn blanks_and_neighbours(cases: &mut Vec<Case>) {
+    for character in blanks::near_blanks() {
+        let input = blanks::filled("<a@", &character);
+        cases.push(Case::answered(Stage, "blank-near", input));
+    }
+    for input in blanks::cut() {
+        cases.push(Case::answered(Stage, "blank-cut", input));
+    }
 }
 
 #[cfg(test)]

@@ -1,6 +1,6 @@
 //! The place in the input, blanks, and the two readings.
 
-use crate::bytes::is_blank_byte;
+use crate::bytes::{character_of, is_blank, is_line_terminator};
 use crate::table::Node;
 use crate::Refusal;
 
@@ -114,18 +114,25 @@ impl<'a> Cursor<'a> {
         Ok(depth + 1)
     }
 
-    /// D: "Blanks are tab, LF, VT, FF, CR and space, and comments". A23: trouble in them comes first.
+    /// Blank characters and comments. A23: trouble in them comes first.
+    /// D: "Blanks are .., and comments: `/*` to the next `*/`, and `//` to ..".
     pub fn blanks(&mut self) -> Result<(), Refusal> {
         loop {
-            self.at = self.run_of(self.at, is_blank_byte);
-            if self.looking_at(b"/*") {
+            if let Some(length) = self.character(is_blank) {
+                self.at += length;
+            } else if self.looking_at(b"/*") {
                 self.block_comment()?;
             } else if self.looking_at(b"//") {
-                self.line_comment()?;
+                self.line_comment();
             } else {
                 return Ok(());
             }
         }
+    }
+
+    /// The length of the character here, if it is in the class.
+    fn character(&self, in_class: fn(char) -> bool) -> Option<usize> {
+        character_of(&self.input[self.at..], in_class)
     }
 
     /// D: "`/*` to the next `*/`". A10: the `*` of `/*` isn't also the `*` of `*/`.
@@ -142,18 +149,11 @@ impl<'a> Cursor<'a> {
         }
     }
 
-    /// D: "`//` to LF, CR or the end of input. U+2028 or U+2029 in a `//` comment is refusal 3
-    /// there." A17: there is the first of its three bytes.
-    fn line_comment(&mut self) -> Result<(), Refusal> {
-        while let Some(byte) = self.byte() {
-            if matches!(byte, b'\n' | b'\r') {
-                break;
-            }
-            if self.looking_at(b"\xE2\x80\xA8") || self.looking_at(b"\xE2\x80\xA9") {
-                return Err(Refusal::at(3, self.at));
-            }
-            self.at += 1;
+    /// D2: "All four terminators end a `//` comment."; D: ".. or the end of input".
+    /// 1.6: the terminator is then itself a blank; every other character is content. 1.7: none is refused.
+    fn line_comment(&mut self) {
+        while let Some(length) = self.character(|character| !is_line_terminator(character)) {
+            self.at += length;
         }
-        Ok(())
     }
 }

@@ -23,9 +23,10 @@ use Place::{Attributes, Child, Expression, Markup, Operand};
 /// as deep as the bracket after it), what closes it, the place inside.
 type Level = (&'static str, usize, &'static str, Place);
 
-const MARKUP: [Level; 4] = [
+const MARKUP: [Level; 5] = [
     ("<a>", 0, "</a>", Child),
     ("< a.b >", 0, "< / a . b>", Child),
+    ("<\u{A0}a\u{3000}>", 0, "<\u{FEFF}/a//\u{2028}>", Child),
     ("<>", 0, "</>", Child),
     ("<a ", 0, "/>", Attributes),
 ];
@@ -59,9 +60,13 @@ const EXPRESSION: [Level; 4] = [
 ];
 
 /// What may stand at the 64th level and try the 65th.
-const CHILD_TAILS: [&str; 16] = [
+const CHILD_TAILS: [&str; 20] = [
     "<",
     "< ",
+    "<\u{A0}",
+    "<\u{2028}b",
+    "<\u{200B}b",
+    "<//\u{2029}>",
     "<!",
     "<f.b-",
     "<f:",
@@ -77,12 +82,16 @@ const CHILD_TAILS: [&str; 16] = [
     "{//\u{2028}",
     "{ @",
 ];
-const EXPRESSION_TAILS: [&str; 27] = [
+#[rustfmt::skip]
+const EXPRESSION_TAILS: [&str; 31] = [
     "-", "--", "!", "b?", "b??", "b?.", "b(", "b[", "(", "<", "<!", "<b", "<>", "b..c", "f()()",
     "if", "1.", "-/*", "b?/*", "b(/*", "(/*", "b[/*", "!@", "</*", "'", "(\"", "'x\n",
+    "b\u{A0}?", "b\u{FEFF}(", "\u{3000}!", "-\u{2028}-",
 ];
-const ATTRIBUTE_TAILS: [&str; 11] = [
+#[rustfmt::skip]
+const ATTRIBUTE_TAILS: [&str; 14] = [
     "b={", "b={}", "{", "{.", "b=<", "b=<c", "b=<>", "b='", "b={/*", "{/*", "b=</*",
+    "\u{A0}b\u{202F}=\u{3000}{", "b=<\u{1680}", "b=<\u{2029}c",
 ];
 
 pub(crate) struct Deep {

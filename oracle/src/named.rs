@@ -15,7 +15,7 @@ pub struct Named {
 type Row = (&'static str, Reading, &'static [u8], &'static str);
 
 pub fn named() -> Vec<Named> {
-    let tables: [&[Row]; 8] = [
+    let tables: [&[Row]; 9] = [
         MARKED,
         MARKUP,
         BRACES,
@@ -24,6 +24,7 @@ pub fn named() -> Vec<Named> {
         SMALLER_READINGS,
         REQUEST_5,
         REQUEST_3,
+        REQUEST_1,
     ];
     let mut all: Vec<Named> = tables.into_iter().flatten().map(of_row).collect();
     all.extend(words());
@@ -249,15 +250,15 @@ const BRACES: &[Row] = &[
 #[rustfmt::skip]
 const BYTES: &[Row] = &[
     ("blanks", Stage, b"\t\n\x0B\x0C\r <a/>\t\n\x0B\x0C\r ", "ok 3"),
-    ("blanks", Stage, b"\xC2\xA0<a/>", "no 3 0 0 0 0"),
-    ("blanks", Stage, b"\xEF\xBB\xBF<a/>", "no 3 0 0 0 0"),
+    ("blanks", Stage, b"\xC2\xA0<a/>", "ok 3"),
+    ("blanks", Stage, b"\xEF\xBB\xBF<a/>", "ok 3"),
     ("comments", Stage, b"/*c*/<a/>/*d*/", "ok 3"),
     ("comments", Stage, b"//c\n<a/>//d", "ok 3"),
     ("comments", Stage, b"//c\r<a/>", "ok 3"),
     ("comments", Stage, b"/* never", "no 17 0 0 0 0"),
     ("comments", Stage, b"<a>{/*}</a>", "no 17 4 4 0 0"),
-    ("U+2028", Stage, b"<a/>//\xE2\x80\xA8", "no 3 6 6 0 0"),
-    ("U+2029", Stage, b"<a/>//\xE2\x80\xA9", "no 3 6 6 0 0"),
+    ("U+2028", Stage, b"<a/>//\xE2\x80\xA8", "ok 3"),
+    ("U+2029", Stage, b"<a/>//\xE2\x80\xA9", "ok 3"),
     ("U+202A", Stage, b"<a/>//\xE2\x80\xAA", "ok 3"),
     ("UTF-8", Stage, b"\xFF", "no 2 0 0 0 0"),
     ("UTF-8", Stage, b"<a>\x80</a>", "no 2 3 3 0 0"),
@@ -329,7 +330,7 @@ const SMALLER_READINGS: &[Row] = &[
     ("A15", Stage, b"<a>{1..c}</a>", "no 3 4 4 0 0"),
     ("A16", Stage, b"<a>{.5}</a>", "no 3 4 4 0 0"),
     ("A16", Stage, b"<a>{a?.5:1}</a>", "no 3 5 5 0 0"),
-    ("A17", Stage, b"<a>{// \xE2\x80\xA8 \n}</a>", "no 3 7 7 0 0"),
+    ("A17", Stage, b"<a>{// \xE2\x80\xA8 \n}</a>", "ok 7"),
     ("A17", Stage, b"<a>{/* \xE2\x80\xA8 */}</a>", "ok 7"),
     ("A17", Stage, b"<a>\xE2\x80\xA8</a>", "ok 6"),
     ("A17", Stage, b"<a b='\xE2\x80\xA9'/>", "ok 6"),
@@ -343,7 +344,7 @@ const SMALLER_READINGS: &[Row] = &[
     ("A22", Stage, b"<a>{!a()}</a>", "ok 7"),
     ("A23", Stage, b"<a/>/*", "no 17 4 4 0 0"),
     ("A23", Run, b"</*", "no 17 1 1 0 0"),
-    ("A23", Stage, b"<a/>//\xE2\x80\xA8\n<b/>", "no 3 6 6 0 0"),
+    ("A23", Stage, b"<a/>//\xE2\x80\xA8\n<b/>", "no 12 10 11 0 0"),
     ("A24", Stage, b"<a/><", "no 12 4 5 0 0"),
     ("A24", Stage, b"<a/><<", "no 13 4 4 0 0"),
     ("A24", Stage, b"<a/><=", "no 13 4 4 0 0"),
@@ -397,6 +398,58 @@ const REQUEST_3: &[Row] = &[
     ("3.12", Stage, b"<a>{'/*", "no 18 4 4 0 0"),
     ("3.12", Stage, b"<a>{/*'", "no 17 4 4 0 0"),
     ("3.12", Stage, b"<a>{\"'", "no 18 4 4 0 0"),
+];
+
+/// 1.1 to 1.13 and 1.16, where they name an input that is not above. U+00A0 is C2 A0, U+FEFF EF BB BF, U+2028 E2 80 A8,
+/// U+2029 E2 80 A9.
+#[rustfmt::skip]
+const REQUEST_1: &[Row] = &[
+    ("1.1", Stage, b"<a\xC2\xA0b/>", "ok 5"),
+    ("1.1", Stage, b"<a\xE1\x9A\x80:\xE2\x80\xAFb\xE2\x81\x9F/>", "ok 5"),
+    ("1.2: U+200B", Stage, b"<a\xE2\x80\x8B/>", "no 3 2 2 0 0"),
+    ("1.2: U+180E", Stage, b"<a\xE1\xA0\x8E/>", "no 3 2 2 0 0"),
+    ("1.2, 1.16: U+0085", Stage, b"<a\xC2\x85/>", "no 3 2 2 0 0"),
+    ("1.2: U+200C", Stage, b"<a\xE2\x80\x8C/>", "no 3 2 2 0 0"),
+    ("1.2: U+200D", Stage, b"<a\xE2\x80\x8D/>", "no 3 2 2 0 0"),
+    ("1.2: U+200E", Stage, b"<a\xE2\x80\x8E/>", "no 3 2 2 0 0"),
+    ("1.2: U+200F", Stage, b"<a\xE2\x80\x8F/>", "no 3 2 2 0 0"),
+    ("1.2: U+2060", Stage, b"<a\xE2\x81\xA0/>", "no 3 2 2 0 0"),
+    ("1.2: U+00AD", Stage, b"<a\xC2\xAD/>", "no 3 2 2 0 0"),
+    ("1.2: U+2060", Stage, b"<\xE2\x81\xA0a/>", "no 3 1 1 0 0"),
+    ("1.2: U+200B", Stage, b"<a/>\xE2\x80\x8B", "no 13 4 4 0 0"),
+    ("1.3", Stage, b"\xEF\xBB\xBF", "no 4 3 3 0 0"),
+    ("1.3", Run, b"\xEF\xBB\xBF", "ok 1"),
+    ("1.4", Stage, b"<a/>\xEF\xBB\xBF", "ok 3"),
+    ("1.4", Stage, b"<a/>\xC2\xA0x", "no 13 6 6 0 0"),
+    ("1.4", Stage, b"<a/>\xC2\xA0<b/>", "no 12 6 7 0 0"),
+    ("1.5", Stage, b"<a>\xC2\xA0</a>", "ok 6"),
+    ("1.5", Stage, b"<a>\xE2\x80\xA8//\xE2\x80\xA8</a>", "ok 6"),
+    ("1.5", Stage, b"<a><\xC2\xA0/a>", "ok 5"),
+    ("1.5", Run, b"<\xC2\xA0/a>", "no 3 0 0 0 0"),
+    ("1.6", Stage, b"<a//x\xE2\x80\xA8b/>", "ok 5"),
+    ("1.6", Stage, b"<a//\xC2\xA0\xEF\xBB\xBF\x0B\x0C\xC2\x85\n/>", "ok 3"),
+    ("1.6", Stage, b"<a>{//}\xE2\x80\xA9b}</a>", "ok 7"),
+    ("1.7", Stage, b"<a/>//\xE2\x80\xA8<b/>", "no 12 9 10 0 0"),
+    ("1.8", Stage, b"<a\xE2\x80\xA8b/>", "ok 5"),
+    ("1.8", Stage, b"<\xE2\x80\xA8", "no 4 4 4 0 0"),
+    ("1.8", Stage, b"<a>{'\xE2\x80\xA8'}</a>", "ok 7"),
+    ("1.8", Stage, b"<a/*\xE2\x80\xA8", "no 17 2 2 0 0"),
+    ("1.9", Stage, b"<a\r\nb/>", "ok 5"),
+    ("1.9", Stage, b"<a//\r\xE2\x80\xA8b/>", "ok 5"),
+    ("1.10", Stage, b"<a>{b|\xC2\xA0|c}</a>", "no 3 5 5 0 0"),
+    ("1.10", Stage, b"<a {.\xC2\xA0..b}/>", "no 3 4 4 0 0"),
+    ("1.10", Stage, b"<a/\xC2\xA0*", "no 3 5 5 0 0"),
+    ("1.10", Stage, b"<a>{b?\xE2\x80\xA8.c:d}</a>", "no 3 9 9 0 0"),
+    ("1.11", Stage, b"<a>{1\xC2\xA0.b}</a>", "ok 7"),
+    ("1.11", Stage, b"<a>{1.\xC2\xA0b}</a>", "no 3 4 4 0 0"),
+    ("1.12", Stage, b"<a>{\xC2\xA0}</a>", "ok 7"),
+    ("1.12", Stage, b"<a b={\xE3\x80\x80}/>", "no 11 5 10 0 0"),
+    ("1.12", Stage, b"<\xE2\x80\x87></a>", "no 8 0 5 7 8"),
+    ("1.12", Stage, b"<a></\xE2\x80\x87>", "no 9 1 2 3 9"),
+    ("1.12", Stage, b"<a>{b\xE3\x80\x80,c}</a>", "no 16 8 9 0 0"),
+    ("1.13", Stage, b"<a\xC2", "no 2 2 2 0 0"),
+    ("1.13", Stage, b"<a\xE2\x80", "no 2 2 2 0 0"),
+    ("1.13", Stage, b"<a>\xE2\x80\xA8\xA8", "no 2 6 6 0 0"),
 ];
 
 /// The 38 reserved words of ECMA-262.
@@ -468,6 +521,8 @@ fn deep() -> Vec<Named> {
         of_text("A20", elements(64, "{/*"), "no 14 192 192 0 0"),
         of_text("A20", elements(63, "<a b={/*"), "no 14 194 194 0 0"),
         of_text("3.13", elements(64, "{\""), "no 14 192 192 0 0"),
+        of_text("1.14", elements(64, "<\u{A0}b"), "no 14 192 192 0 0"),
+        of_text("1.14", elements(64, "<\u{2028}"), "no 4 196 196 0 0"),
         of_text("A20", parens(62, "(/*"), "no 14 66 66 0 0"),
         of_text("A20", parens(62, "b(/*"), "no 14 67 67 0 0"),
         of_text("A20", parens(62, "b/*"), "no 17 67 67 0 0"),

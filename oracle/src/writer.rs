@@ -1,6 +1,7 @@
 //! A writer of stages and runs by the grammar: it knows the tree that it wrote, and, where it was
 //! told to plant a fault, the refusal that must follow. It shares no rule with the readers.
 
+use crate::blanks::BLANKS_BEYOND_ASCII;
 use crate::random::Random;
 use crate::table::{kind, Node};
 use crate::Refusal;
@@ -19,7 +20,9 @@ const BAD_PRIMARIES: [&str; 20] = [
     "if", "let", "static", "await", "yield", "enum", "public", "1.", "01", "00", "1a", "1.5_",
     "0x1", "1.a", "1..b", "++b", "**", "/", ".5", "..",
 ];
-const IN_STRINGS: [&str; 9] = ["", "x", "a b", "é", "\u{2028}", "//", "<>{}", "/*", "😀"];
+const IN_STRINGS: [&str; 11] = [
+    "", "x", "a b", "é", "\u{2028}", "//", "<>{}", "/*", "😀", "\u{A0}", "\u{FEFF}",
+];
 const IN_ATTRIBUTES: [&str; 6] = ["\\", "x\ny", "\r\n", "&amp;", "a/>", "\t\u{2029}"];
 /// What may stand behind `/*` and leave it open.
 const IN_OPEN_COMMENTS: [&str; 10] = [
@@ -37,7 +40,7 @@ const IN_OPEN_COMMENTS: [&str; 10] = [
 /// What may stand at the end of a string that stays open, whichever its quote.
 const AFTER_OPEN_STRINGS: [&str; 6] = ["", " ", "/* */", "}</a>", "//", "\u{2029}"];
 const LINE_ENDS: [&str; 3] = ["\n", "\r", "\r\n"];
-const TEXTS: [&str; 12] = [
+const TEXTS: [&str; 15] = [
     "hi",
     " ",
     "\n  ",
@@ -50,6 +53,9 @@ const TEXTS: [&str; 12] = [
     "a=b",
     "\\",
     "\u{2028}",
+    "\u{A0}",
+    "\u{FEFF} x",
+    "//\u{2029}\u{3000}",
 ];
 const BLANKS: [&str; 25] = [
     "",
@@ -78,7 +84,30 @@ const BLANKS: [&str; 25] = [
     "/*\n//*/",
     "//c\n",
 ];
-const LINE_COMMENTS: [&str; 3] = ["//\n", "// é > */\r", "///* \n"];
+const LINE_COMMENTS: [&str; 8] = [
+    "//\n",
+    "// é > */\r",
+    "///* \n",
+    "//\u{2028}",
+    "//}\u{2029}",
+    "// é > */\u{2028}",
+    "///*\u{A0}\u{FEFF}\u{85}\u{2029}",
+    "//\u{200B}\x0B\x0C\r\u{2028}",
+];
+/// No allowed token begins with one of these, in tags or in braces; the last four are next to blanks and are none.
+const NO_TOKENS: [&str; 10] = [
+    "@", "#", "\\", "`", "é", ";", "\u{85}", "\u{180E}", "\u{200B}", "\u{2060}",
+];
+/// What isn't UTF-8 where an ASCII byte or nothing follows: a byte that leads nothing, and blanks cut in their bytes.
+const NOT_UTF8: [&[u8]; 7] = [
+    b"\xC1",
+    b"\xC2",
+    b"\xE1\x9A",
+    b"\xE2",
+    b"\xE2\x80",
+    b"\xE3\x80",
+    b"\xEF\xBB",
+];
 
 /// A fault to plant: its number, and how many chances to let pass.
 #[derive(Clone, Copy)]
@@ -129,7 +158,9 @@ impl Writer {
         self.blanks();
         if self.due(13) {
             self.refusal(13, (self.end(), self.end()), (0, 0));
-            let other = self.random.one_of(&["x", "{", ">", "\"", "<<", "<=", "/"]);
+            let other = self
+                .random
+                .one_of(&["x", "{", ">", "\"", "<<", "<=", "/", "\u{200B}", "\u{85}"]);
             self.raw(other);
         }
         vec![node]
@@ -182,14 +213,24 @@ impl Writer {
         if !self.random.once_in(self.blanks_once_in) {
             return;
         }
-        let mut blanks = self.random.one_of(&BLANKS);
-        if self.random.once_in(40) {
-            blanks = self.random.one_of(&LINE_COMMENTS);
-        }
+        let blanks = match self.random.below(20) {
+            0 => self.random.one_of(&LINE_COMMENTS),
+            1..=4 => self.random.one_of(&BLANKS_BEYOND_ASCII),
+            _ => self.random.one_of(&BLANKS),
+        };
         if blanks.starts_with('/') && self.bytes.last() == Some(&b'/') {
-            self.raw(" ");
+            self.one_blank();
         }
         self.raw(blanks);
+    }
+
+    /// A blank character where one is needed.
+    fn one_blank(&mut self) {
+        let blank = match self.random.below(2) {
+            0 => self.random.one_of(&BLANKS_BEYOND_ASCII),
+            _ => " ",
+        };
+        self.raw(blank);
     }
 
     /// Blanks and a token; where one is needed, a fault may stand instead of it.
@@ -203,10 +244,11 @@ impl Writer {
         let here = (self.end(), self.end());
         if self.due(2) {
             self.refusal(2, here, (0, 0));
-            self.bytes.push(0xC1);
+            let bad = self.random.one_of(&NOT_UTF8);
+            self.bytes.extend_from_slice(bad);
         }
         if self.due(3) {
-            self.no_token_or_a_bad_comment();
+            self.no_token();
         }
         if self.due(4) {
             self.refusal(4, here, (0, 0));
@@ -215,15 +257,15 @@ impl Writer {
         self.fault_of_a_comment();
     }
 
-    fn no_token_or_a_bad_comment(&mut self) {
+    /// What begins no token, right here or behind a `//` comment that a line terminator beyond ASCII ends.
+    fn no_token(&mut self) {
         if self.bytes.last() != Some(&b'/') && self.random.once_in(4) {
             self.raw("// é");
             let line_end = self.random.one_of(&["\u{2028}", "\u{2029}"]);
-            self.bad_bytes(line_end);
-        } else {
-            let bad = self.random.one_of(&["@", "#", "\\", "`", "é", ";"]);
-            self.bad_bytes(bad);
+            self.raw(line_end);
         }
+        let bad = self.random.one_of(&NO_TOKENS);
+        self.bad_bytes(bad);
     }
 
     /// What is refused by 3 at its first byte.
@@ -488,7 +530,7 @@ impl Writer {
         self.blanks();
         let last = self.bytes[self.end() - 1];
         if last.is_ascii_alphanumeric() || b"_$-".contains(&last) {
-            self.raw(" ");
+            self.one_blank();
         }
         self.fault_before_a_token();
         let first = self.random.one_of(&NAMES);
@@ -663,7 +705,7 @@ impl Writer {
         let operator = self.random.one_of(&["!", "-"]);
         self.blanks();
         if operator == "-" && self.bytes.last() == Some(&b'-') {
-            self.raw(" ");
+            self.one_blank();
         }
         let start = self.raw(operator);
         (start, self.unary(depth + 1, held).1)
@@ -687,7 +729,7 @@ impl Writer {
     /// A dot right after whole digits would be taken for theirs.
     fn dot_name(&mut self, after_a_whole_number: bool) {
         if after_a_whole_number {
-            self.raw(" ");
+            self.one_blank();
         }
         self.token(".");
         let words = if self.random.once_in(2) {

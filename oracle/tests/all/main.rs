@@ -1,5 +1,6 @@
 //! The tests of the oracle, in one program.
 
+mod blanks;
 mod depths;
 mod limits;
 mod named;

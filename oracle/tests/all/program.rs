@@ -161,3 +161,32 @@ fn random_items_leave_things_open_and_break_strings() {
     assert_eq!(kinds, [(3, lf), (3, cr), (5, None), (17, None), (18, None)]);
     assert!(met.values().all(|&count| count * 200 > items), "{met:?}");
 }
+
+/// Each blank character beyond ASCII is read as one, and each of the two line terminators among them ends a `//`
+/// comment, at least once in 400 items: another character of its length in its place would give another answer.
+#[test]
+fn random_items_meet_the_blanks_beyond_ascii() {
+    let items: Vec<_> = (0..10_000).map(oracle::corpus::random).collect();
+    let differ = |old: char, new: char| {
+        let differs = |(reading, bytes): &&(oracle::Reading, Vec<u8>)| {
+            let Ok(text) = std::str::from_utf8(bytes) else {
+                return false;
+            };
+            let limits = oracle::Limits::default();
+            let other = text.replace(old, &new.to_string());
+            let answer = |text: &str| oracle::read(text.as_bytes(), *reading, limits);
+            text.contains(old) && answer(text) != answer(&other)
+        };
+        items.iter().filter(differs).count()
+    };
+    let others = "\u{1680}\u{2028}\u{2029}\u{202F}\u{205F}\u{3000}\u{FEFF}";
+    let of_three_bytes = ('\u{2000}'..='\u{200A}').chain(others.chars());
+    let mut met: Vec<_> = of_three_bytes.map(|c| (c, differ(c, '\u{200B}'))).collect();
+    met.push(('\u{A0}', differ('\u{A0}', '\u{85}')));
+    assert_eq!(met.len(), 19);
+    met.extend(['\u{2028}', '\u{2029}'].map(|c| (c, differ(c, '\u{2003}'))));
+    assert!(
+        met.iter().all(|&(_, count)| count * 400 > items.len()),
+        "{met:?}"
+    );
+}
