@@ -1,5 +1,5 @@
 #!/usr/bin/env python3
-"""Tests of compare: what counts as a difference, and that a difference shrinks."""
+"""Tests of compare: what counts as a difference, and that it shrinks; and of items: which blanks they have."""
 import os
 import re
 import sys
@@ -10,9 +10,17 @@ from unittest import mock
 
 HERE = os.path.dirname(os.path.abspath(__file__))
 sys.dont_write_bytecode = True
-loader = SourceFileLoader("compare", os.path.join(HERE, "compare"))
-compare = module_from_spec(spec_from_loader("compare", loader))
-loader.exec_module(compare)
+
+
+def loaded(name):
+    """The program of this name beside this file, as a module."""
+    loader = SourceFileLoader(name, os.path.join(HERE, name))
+    module = module_from_spec(spec_from_loader(name, loader))
+    loader.exec_module(module)
+    return module
+
+
+compare, items = loaded("compare"), loaded("items")
 
 STAGE = ["ok 3", "0 1 0 4 - 3 0 0", "1 18 0 4 0 3 0 1", "2 4 1 2 1 3 0 2"]
 ROWS = [[1, 0, 4, -1, 0, 0], [18, 0, 4, 0, 0, 1], [16, 1, 2, 1, 0, 2]]
@@ -81,8 +89,27 @@ class Shrunk(unittest.TestCase):
 
 class Items(unittest.TestCase):
     def test_a_batch_is_read_back(self):
-        items = [("s", b"<a/>"), ("r", b""), ("r", "\u2028".encode())]
-        self.assertEqual(list(compare.items_of(compare.batch_of(items))), items)
+        some = [("s", b"<a/>"), ("r", b""), ("r", "\u2028".encode())]
+        self.assertEqual(list(compare.items_of(compare.batch_of(some))), some)
+
+    def test_blanks_beyond_ascii_stand_at_every_hole(self):
+        self.assertEqual(len(set(items.NEW_BLANKS)), 19)
+        filled = set(items.filled())
+        for character in items.NEW_BLANKS + items.NEAR_MISSES:
+            for frame in items.HOLES:
+                self.assertIn(("s", frame.replace("@", character).encode()), filled)
+
+    def test_line_comments_end_by_each_terminator(self):
+        filled = set(items.filled())
+        for terminator in "\n\r\u2028\u2029":
+            for frame in ("<a//%sb/>", "<a//x%s/>", "<a>{//%s}</a>", "//%s<a/>", "<a/>//%s"):
+                self.assertIn(("s", (frame % terminator).encode()), filled)
+
+    def test_random_items_have_blanks_beyond_ascii(self):
+        rng = items.random.Random(1)
+        texts = [items.random_item(rng, number)[1].decode() for number in range(3000)]
+        for character in items.NEW_BLANKS + ["//\u2028", "//x\u2029"]:
+            self.assertTrue(any(character in text for text in texts), ascii(character))
 
     def test_a_refusal(self):
         self.assertEqual(port_answer(["no 7 1 2 5 6"]), compare.Answer(7, [1, 2, 5, 6], None))
