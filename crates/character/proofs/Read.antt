@@ -23,7 +23,8 @@ use Rattle.character.proofs.WidthSteps
 bits-inside : (s : List ℕ) (n c at : ℕ) → (codeOn s n c at ≡ noChar → ⊥) → at ≤ length s → at + n ≤ length s
 bits-inside s zero c at k i = omega arith
 bits-inside s (suc n) c at k i =
-    go (decLt (byteAt s at) 0x80) (decLt (byteAt s at) 0xC0) (bits-inside s n (c * 0x40 + (byteAt s at - 0x80)) (at + 1))
+    go (decLt (byteAt s at) 0x80) (decLt (byteAt s at) 0xC0)
+    (bits-inside s n (c * 0x40 + (byteAt s at - 0x80)) (at + 1))
   where
     rest : ℕ
     rest = codeOn s n (c * 0x40 + (byteAt s at - 0x80)) (at + 1)

@@ -38,8 +38,8 @@ place-cases =
     ∷ on stage "<a/>\u{a0}x" (at 13 6)
     ∷ on stage "<a/>\u{a0}<b/>" (span 12 6 7)
     -- 1.5: in child position nothing is a blank; behind a child's `<` it is.
-    ∷ on stage "<a>\u{a0}</a>" (rows (row 1 0 9 4294967295 6 1 0 (row 18 0 3 0 3 0 1 (row 3 1 2 1 3 0 2 (row 14 3 5 0 4 0 1
-    (row 17 5 9 0 6 0 1 (row 3 7 8 4 6 0 2 [])))))))
+    ∷ on stage "<a>\u{a0}</a>" (rows (row 1 0 9 4294967295 6 1 0 (row 18 0 3 0 3 0 1 (row 3 1 2 1 3 0 2
+    (row 14 3 5 0 4 0 1 (row 17 5 9 0 6 0 1 (row 3 7 8 4 6 0 2 [])))))))
     ∷ on stage "<a>\u{2028}//\u{2028}</a>" (counted 6)
     ∷ on stage "<a><\u{a0}/a>" (counted 5)
     ∷ on run "<\u{a0}/a>" (at 3 0)

@@ -123,7 +123,7 @@ pub record Fair (v : Forest → Forest → Verdict) : Type 0 where
 abbrev pub Fitting : (R : Label → Forest → Type 0) (l : Forest → Label) (t : Rule) → Type 0
 Fitting R l t = (s : List ℕ) (F e at : ℕ) (a : Bool) (o : Forest) (p : ℕ) → parse s F t e at ≡ got a o p → R (l o) o
 
--- C: what reads a content with that depth left inside it. Q: the bytes that close; no `look` goes on behind one of them.
+-- C: what reads a content with that depth left inside it. Q: the bytes that close; no `look` goes on behind one.
 -- R: what holds of every node.
 -- From a mode, a rule, to a mode where it goes on, and to a mode where it stops.
 pub data Flow (C : ℕ → Rule) (Q : Test) (R : Label → Forest → Type 0) : Mode → Rule → Mode → Mode → Type 0 where

@@ -11,8 +11,8 @@ use borrow.Author.Tests.{ltb-true, ltb-false, lt-ltb, le-ltb}
 use Rattle.rules.specs.Forest.{content, Forest, nil, byte, group, _⋈_}
 use Rattle.rules.specs.Rule.{Place, here, mark, fromMark, thisByte, Verdict, fine, differ, Look, Rule, done, stop}
 use Rattle.rules.specs.Rule.{step, refuse, when, look, after, seq, many, wrap, said, marked, paired}
-use Rattle.rules.specs.Parse.{Answer, got, trouble, pick, andThen, behind, byteAt, stands, refusal, judged, repeat}
-use Rattle.rules.specs.Parse.{parse}
+use Rattle.rules.specs.Parse.{Answer, got, trouble, pick, andThen, behind, byteAt, stands, refusal, judged}
+use Rattle.rules.specs.Parse.{repeat, parse}
 pub use Rattle.rules.proofs.Run.{Then, Either}
 use Rattle.rules.proofs.Run.{then-if, then-then, then-any, then-behind, then-refusal, then-judged}
 
@@ -264,8 +264,9 @@ module _ (P : Look → Type 0) (s s′ : List ℕ) (k k′ lo hi lim : ℕ) (hl 
         (l .1)
         (λ m. local t e e′ at at′ le tw lw m) (λ m. local u e e′ at at′ le tw lw m)
     local (look w t u) e e′ at at′ le tw lw l =
-        follow-if (stands s w at) (stands s′ w at′) (parse s F t e at) (parse s F u e at) (parse s′ F′ t e′ at′) (parse s′
-        F′ u e′ at′) (agree at at′ tw lw (l .0) .2 w (l .1)) (Looks P s hi F t e at) (Looks P s hi F u e at) (l .2)
+        follow-if (stands s w at) (stands s′ w at′) (parse s F t e at) (parse s F u e at) (parse s′ F′ t e′ at′)
+        (parse s′ F′ u e′ at′) (agree at at′ tw lw (l .0) .2 w (l .1)) (Looks P s hi F t e at) (Looks P s hi F u e at)
+        (l .2)
         (λ m. local t e e′ at at′ le tw lw m) (λ m. local u e e′ at at′ le tw lw m)
     local (after r f t u) e e′ at at′ le tw lw l =
         follow-after at (parse s F r e at) (parse s′ F′ r e′ at′) _ _ (λ a o p. Either (f (byteAt s p))

@@ -10,8 +10,8 @@ use borrow.Author.Tests.{lt-ltb}
 use Rattle.rules.specs.Forest.{content, Forest, nil, byte, group, _⋈_, width}
 use Rattle.rules.specs.Rule.{Place, here, mark, fromMark, thisByte, Verdict, fine, differ, Rule, done, stop, step}
 use Rattle.rules.specs.Rule.{refuse, when, look, after, seq, many, wrap, said, marked, paired}
-use Rattle.rules.specs.Parse.{Answer, got, trouble, pick, andThen, behind, byteAt, stands, refusal, judged, repeat}
-use Rattle.rules.specs.Parse.{parse}
+use Rattle.rules.specs.Parse.{Answer, got, trouble, pick, andThen, behind, byteAt, stands, refusal, judged}
+use Rattle.rules.specs.Parse.{repeat, parse}
 use Rattle.rules.proofs.Forests.{behind-nil, behind-assoc, width-behind}
 
 -- ---- an answer behind a forest

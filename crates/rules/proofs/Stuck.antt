@@ -9,8 +9,8 @@ use lib.Dec.{eqb, ltb}
 use borrow.Author.Tests.{lt-ltb}
 use Rattle.rules.specs.Forest.{Label, Forest, group, content, _⋈_}
 use Rattle.rules.specs.Rule.{Place, here, mark, fromMark, thisByte, Test, Verdict, fine, differ, Rule, step}
-use Rattle.rules.specs.Parse.{Answer, got, trouble, pick, andThen, behind, byteAt, stands, refusal, judged, repeat}
-use Rattle.rules.specs.Parse.{parse, parseAll}
+use Rattle.rules.specs.Parse.{Answer, got, trouble, pick, andThen, behind, byteAt, stands, refusal, judged}
+use Rattle.rules.specs.Parse.{repeat, parse, parseAll}
 use Rattle.rules.proofs.Ends.{top-got}
 use Rattle.rules.proofs.Flow.{Mode, Numbered, Flow, f-weak, f-done, f-stop, f-step, f-refuse, f-when, f-expect}
 use Rattle.rules.proofs.Flow.{f-look, f-after, f-seq, f-many, f-wrap, f-said, f-marked, f-paired, f-pass}

@@ -5,8 +5,9 @@ use mathlib.Core.List.{List, [], _∷_}
 use lib.ListN.{length, getD}
 use lib.Dec.{ltb, eqb}
 use Rattle.rules.specs.Forest.{Forest, nil, byte, group, content, _⋈_}
-use Rattle.rules.specs.Rule.{Place, here, mark, fromMark, thisByte, Verdict, fine, differ, Look, bytes, char, Rule}
-use Rattle.rules.specs.Rule.{done, stop, step, refuse, when, look, after, seq, many, wrap, said, marked, paired}
+use Rattle.rules.specs.Rule.{Place, here, mark, fromMark, thisByte, Verdict, fine, differ, Look, bytes, char}
+use Rattle.rules.specs.Rule.{Rule, done, stop, step}
+use Rattle.rules.specs.Rule.{refuse, when, look, after, seq, many, wrap, said, marked, paired}
 
 -- Whether to go on, what was read, and the next place; or a refusal: its number and two places, start and end.
 pub data Answer : Type 0 where

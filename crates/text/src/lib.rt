@@ -32,8 +32,8 @@ pub fn in_text(b: u32) -> bool
     }
 }
 
-// The same test, for many bytes in a row. With bit 6 left out, `<`, `>`, `{` and `}` are 3B to 3E hex, so one test tells
-// most bytes of a text.
+// The same test, for many bytes in a row: with bit 6 left out, `<`, `>`, `{` and `}` are 3B to 3E hex, so that one
+// comparison tells most bytes of a text.
 fn stays_in_text(b: u32) -> bool
     ensures { λ r. ⌜ r ≡ inText b ⌝ }
 {
