@@ -74,7 +74,8 @@ expect c =
     when (is c) ⇒ step
     ∣ need
 
--- The bytes of the character here, as many as the first of them says.
+-- The bytes of the character here, as many as the first of them says. D: "Tests run in this order: 1; 2; the reading":
+-- what is read is good UTF-8, so no character is spelled with more bytes than it needs.
 abbrev pub character : Rule
 character =
     when (0xC0 ‥ 0xDF) ⇒ step ⨾ step
