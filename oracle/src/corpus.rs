@@ -1,6 +1,7 @@
 //! A list of inputs, the same on every machine, with this oracle's answers.
 
 use crate::blanks;
+use crate::blocks;
 use crate::cases::Case;
 use crate::deep;
 use crate::forms::case_form;
@@ -88,15 +89,17 @@ pub fn corpus() -> Vec<Case> {
     short_after_beginnings(&mut cases, &LINE_BEGINNINGS, &IN_AND_BEHIND_LINES, 2);
     blanks_in_places(&mut cases);
     blanks_and_neighbours(&mut cases);
+    plain_stretches(&mut cases);
     cases
 }
 
 /// One input by its seed: valid, with a planted fault, some bytes, the same behind a beginning or behind one that
-/// leaves something open, blanks and tokens behind a beginning, a deep one's end, or valid and then damaged.
+/// leaves something open, blanks and tokens behind a beginning, a deep one's end, a long text, string or comment, or
+/// valid and then damaged, now and then by a long stretch put in.
 pub fn random(seed: u64) -> (Reading, Vec<u8>) {
     let mut random = Random::seeded(seed);
     let reading = if random.once_in(2) { Stage } else { Run };
-    let bytes = match random.below(13) {
+    let bytes = match random.below(15) {
         0 => write(seed, reading, None).bytes,
         1 => return planted_by(&mut random, seed),
         2 => some_of(&mut random, &each_byte(MORE)),
@@ -112,8 +115,12 @@ pub fn random(seed: u64) -> (Reading, Vec<u8>) {
             let pieces = [&blanks::characters()[..], &BLANKS_AND_TOKENS].concat();
             behind_one_of(&mut random, &BEGINNINGS, &pieces)
         }
+        8 | 9 => return blocks::drawn(&mut random),
         _ => {
             let mut bytes = write(seed, reading, None).bytes;
+            if random.once_in(4) {
+                bytes = stretched(&mut random, &bytes);
+            }
             for _ in 0..=random.below(2) {
                 let (_, damage) = DAMAGES[random.below(DAMAGES.len())];
                 bytes = damage(&mut random, &bytes);
@@ -221,11 +228,16 @@ impl Written {
 
     /// The case; the reader's answer must be the writer's.
     fn case(self, reading: Reading, class: &str) -> Case {
-        let known = case_form(&self.known());
-        let case = Case::answered(reading, class, self.bytes);
-        assert_eq!(case.answer, known, "{}", case.line());
-        case
+        let known = self.known();
+        known_case(reading, class, self.bytes, &known)
     }
+}
+
+/// A case whose answer is known by how its input was made: the reader's must be that.
+fn known_case(reading: Reading, class: &str, input: Vec<u8>, known: &Answer) -> Case {
+    let case = Case::answered(reading, class, input);
+    assert_eq!(case.answer, case_form(known), "{}", case.line());
+    case
 }
 
 fn valid(cases: &mut Vec<Case>) {
@@ -347,6 +359,13 @@ fn put_in(random: &mut Random, bytes: &[u8]) -> Vec<u8> {
         .map(|_| MORE.as_bytes()[random.below(MORE.len())])
         .collect();
     [&bytes[..at], &new, &bytes[at..]].concat()
+}
+
+/// Up to 70 letters are put in.
+fn stretched(random: &mut Random, bytes: &[u8]) -> Vec<u8> {
+    let at = random.below(bytes.len() + 1);
+    let stretch = blocks::drawn_stretch(random);
+    [&bytes[..at], &stretch, &bytes[at..]].concat()
 }
 
 /// Two spans that stand side by side change places.
@@ -530,6 +549,14 @@ fn blanks_and_neighbours(cases: &mut Vec<Case>) {
     }
     for input in blanks::cut() {
         cases.push(Case::answered(Stage, "blank-cut", input));
+    }
+}
+
+/// Request 2: what ends or breaks a plain stretch, at each place of a block.
+fn plain_stretches(cases: &mut Vec<Case>) {
+    for known in blocks::inputs() {
+        let (reading, class) = (known.reading, known.class);
+        cases.push(known_case(reading, class, known.input, &known.answer));
     }
 }
 

@@ -1,6 +1,7 @@
 //! The tests of the oracle, in one program.
 
 mod blanks;
+mod blocks;
 mod depths;
 mod limits;
 mod named;

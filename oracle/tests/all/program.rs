@@ -190,3 +190,41 @@ fn random_items_meet_the_blanks_beyond_ascii() {
         "{met:?}"
     );
 }
+
+/// Request 2: a text, a quoted string, an expression and a broken string of more than 24 bytes, and a bad byte behind
+/// as many of ASCII, each in at least one of 500 items.
+#[test]
+fn random_items_have_long_plain_stretches() {
+    use oracle::{kind, Answer, Limits};
+    let items = 10_000;
+    let mut met = std::collections::BTreeMap::new();
+    for (reading, bytes) in (0..items).map(oracle::corpus::random) {
+        let mut long = Vec::new();
+        match oracle::read(&bytes, reading, Limits::default()) {
+            Answer::Accepted(records) => {
+                let records = records
+                    .iter()
+                    .filter(|record| record.end - record.start > 24);
+                long.extend(records.map(|record| ("kind", record.kind)));
+            }
+            Answer::Refused { number, places } => {
+                let good = bytes[..places[0]].iter().rev();
+                let ascii = good.take_while(|byte| byte.is_ascii()).count();
+                let broken = number == 3 && places[0] + 24 < places[1];
+                if broken || number == 2 && ascii > 24 {
+                    long.push(("refusal", number));
+                }
+            }
+        }
+        long.sort();
+        long.dedup();
+        long.into_iter()
+            .for_each(|what| *met.entry(what).or_insert(0) += 1);
+    }
+    let kinds = [kind::TEXT, kind::QUOTED_STRING, kind::EXPRESSION].map(|kind| ("kind", kind));
+    let refusals = [2, 3].map(|number| ("refusal", number));
+    for what in kinds.into_iter().chain(refusals) {
+        let count = met.get(&what).copied().unwrap_or(0);
+        assert!(count * 500 > items, "{what:?}: {count} of {items}");
+    }
+}
