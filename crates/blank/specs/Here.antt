@@ -5,8 +5,9 @@ use Prim.Native.Nat.{ℕ}
 use lib.Dec.{ltb}
 use Rattle.rules.specs.Rule.{Test}
 use Rattle.rules.specs.Parse.{pick, byteAt, codeAt}
-use Rattle.jsx.specs.Byte.{end}
+use Rattle.jsx.specs.Byte.{is, end}
 use Rattle.jsx.specs.Blank.{blankChar, lineTerminator}
+use Rattle.lanes.specs.Lanes.{beyond}
 use Rattle.character.specs.Width.{widthOf}
 
 -- A byte that is a blank by itself.
@@ -20,3 +21,7 @@ blankWidth s at = pick (blankChar (codeAt s at)) (widthOf (byteAt s at)) 0
 -- Whether a `//` comment ends here.
 unfoldable pub lineEnds : List ℕ → ℕ → Bool
 lineEnds s at = pick (end (byteAt s at)) true (lineTerminator (codeAt s at))
+
+-- A byte at which a scan of a `//` comment stops: one that ends a line, or one beyond ASCII.
+abbrev pub lineStop : Test
+lineStop b = pick (is "\n" b) true (pick (is "\r" b) true (beyond b))

@@ -6,7 +6,9 @@ ghost use Rattle.rules.specs.Parse.{codeAt};
 ghost use Rattle.jsx.specs.Byte.{is, _or_, _‥_};
 ghost use Rattle.jsx.specs.Blank.{blankChar, lineTerminator, comment, lineComment, blanks, pass as passRule};
 ghost use Rattle.lex.specs.Contract.{Leaf, Past, nothing};
-ghost use Rattle.blank.specs.Here.{blankByte, blankWidth, lineEnds};
+ghost use Rattle.lanes.specs.Lanes.{Marked};
+ghost use Rattle.lanes.specs.First.{First};
+ghost use Rattle.blank.specs.Here.{blankByte, blankWidth, lineEnds, lineStop};
 use lex::Ans;
 use lex::bytes::CR;
 use lex::bytes::END;
@@ -86,14 +88,64 @@ pub fn skip_comment(s: &[u8], at: usize) -> Ans
     requires { ⌜ at + 2 ≤ length (now s) ⌝ }
     ensures { λ r. ⌜ Leaf nothing r (now (s .entry)) comment at 4 ⌝ }
 {
-    let mut p = at + 2; // behind `/*`
+    let mut p = lanes::find(s, at + 2, STAR); // behind `/*`
     while lex::byte(s, p) != END {
         if lex::two_at(s, p, STAR, SLASH) {
             return Ans::Got(p + 2, 0);
         }
-        p = p + 1;
+        p = lanes::find(s, p + 1, STAR);
     }
     Ans::No(COMMENT_NEVER_CLOSED, at, at, 0, 0)
+}
+
+// A byte at which a look over a line stops: one that ends it, or one beyond ASCII, which may begin what does.
+fn stops_line(b: u32) -> bool
+    ensures { λ r. ⌜ r ≡ lineStop b ⌝ }
+{
+    if b == LF {
+        return true;
+    }
+    if b == CR {
+        return true;
+    }
+    b >= WIDE
+}
+
+// The lanes with such a byte.
+fn line_stops(w: u64) -> u64
+    ensures { λ r. ⌜ Marked lineStop w r ⌝ }
+{
+    lanes::equal(w, LF) | (lanes::equal(w, CR) | lanes::beyond_ascii(w))
+}
+
+fn find_line_stop_rest(s: &[u8], at: usize) -> usize
+    requires { ⌜ at ≤ length (now s) ⌝ }
+    ensures { λ r. ⌜ First lineStop (now (s .entry)) at r ⌝ }
+{
+    let mut p = at;
+    while p < s.len() {
+        if stops_line(lex::byte(s, p)) {
+            return p;
+        }
+        p = p + 1;
+    }
+    p
+}
+
+// The first such byte from here on, or the end.
+fn find_line_stop(s: &[u8], at: usize) -> usize
+    requires { ⌜ at ≤ length (now s) ⌝ }
+    ensures { λ r. ⌜ First lineStop (now (s .entry)) at r ⌝ }
+{
+    let mut p = at;
+    while p + 8 <= s.len() {
+        let h = line_stops(lanes::word(s, p));
+        if h != 0 {
+            return p + lanes::first_lane(h);
+        }
+        p = p + 8;
+    }
+    find_line_stop_rest(s, p)
 }
 
 // Past the `//` that begins here, up to what ends its line.
@@ -103,6 +155,10 @@ pub fn skip_line_comment(s: &[u8], at: usize) -> usize
 {
     let mut p = at + 2; // behind `//`
     while !line_ends(s, p) {
+        if lex::byte(s, p) < WIDE {
+            p = find_line_stop(s, p + 1);
+            continue;
+        }
         p = p + 1;
     }
     p

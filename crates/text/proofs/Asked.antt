@@ -1,7 +1,6 @@
 -- What calls, sums and loops of this crate ask.
 use borrow.Author.Needs.{needs}
-use Rattle.lex.proofs.Runs.{run-nearer}
-use Rattle.text.proofs.TextSteps.{text-end}
-use Rattle.text.proofs.QuoteSteps.{string-nearer}
+use Rattle.text.proofs.TextSteps.{text-asked}
+use Rattle.text.proofs.QuoteSteps.{quote-asked, quote-byte, string-nearer}
 
-pub ruleset asked = (needs, text-end, run-nearer, string-nearer)
+pub ruleset asked = (needs, text-asked, quote-asked, quote-byte, string-nearer)

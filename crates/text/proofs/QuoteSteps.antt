@@ -23,6 +23,9 @@ use Rattle.lex.specs.Contract.{nothing, Leaf}
 use Rattle.lex.specs.declared.Ans.the-variants.{Got, No}
 use Rattle.lex.proofs.Laws.{inside, test-inside, not-end, byte-is, byte-not, tested, step-is, leaf-stop, leaf-done}
 use Rattle.lex.proofs.Turns.{Turns, turns-begin, turns-more, turns-end, turns-no}
+use Rattle.lanes.specs.Lanes.{only}
+use Rattle.lanes.specs.First.{First}
+use Rattle.lanes.proofs.Over.{turns-over}
 
 -- ---- the rules, over the number when never closed, the byte that quotes and what is read between
 
@@ -100,6 +103,18 @@ quote-inside : (s : List ℕ) (at : ℕ) → quote (byteAt s at) ≡ true → at
 unfolding quote
 quote-inside s at h = test-inside quote refl s at h
 
+module _ (s : List ℕ) (at : ℕ) (o : quote (byteAt s at) ≡ true) where
+  -- Behind it is within the input.
+  pub quote-asked : at + 1 ≤ length s
+  quote-asked = let i = quote-inside s at o in omega arith
+
+  -- It is a byte.
+  pub quote-byte : {q : ℕ} → ((k : ℕ) → Fits w8 (getD s k 0)) → q ≡ byteAt s at → q < 256
+  quote-byte each e =
+      let f = each at .fits in
+      let g = inside s at 0 256 (quote-inside s at o) in
+      omega arith
+
 -- Behind the quote.
 pub quote-begins : {n : ℕ} {t : Rule} {s : List ℕ} {at q : ℕ} → quote (byteAt s at) ≡ true → q ≡ byteAt s at
     → Quoted n t s at q (at + 1)
@@ -140,36 +155,38 @@ quoted-as : (s : List ℕ) (at : ℕ) {x : Answer} → readAt s (either quotedNe
 unfolding parse quoted quotedBy quotedTurn
 quoted-as s at e = ap (λ (x : Answer). andThen x (λ a o p. got a (group (node Kind.quoted 0) o nil) p)) e
 
--- The input ends.
-pub quoted-open : {s : List ℕ} {at q p : ℕ} → Quoted quotedNeverClosed step s at q p → length s ≤ p
-    → Leaf nothing (No quotedNeverClosed at at 0 0) s quoted at 2
-quoted-open {s} {at} {p = p} v h =
-    let e = eq-eqb (byteAt s p) 256 (List·getD-eq-default s 256 h) in
-    leaf-stop nothing s quoted at 2 refl
-    (quoted-as s at (refuses v (turn-end s (suc (length s)) at p quotedNeverClosed step (byteAt s at) e)))
-
 module _
-    {s : List ℕ} (each : (k : ℕ) → Fits w8 (getD s k 0)) {at q p : ℕ} (v : Quoted quotedNeverClosed step s at q p)
-    (i : p < length s) {b : ℕ} (y : b ≡ byteAt s p)
+    (s : List ℕ) (at q : ℕ) (each : (k : ℕ) → Fits w8 (getD s k 0)) {p : ℕ} (o : quote (byteAt s at) ≡ true)
+    (e : q ≡ byteAt s at) (l : First (only q) s (at + 1) p)
   where
-    no-end : end (byteAt s p) ≡ false
-    no-end = let f = each p .fits in let e = inside s p 0 256 i in ne-eqb (byteAt s p) 256 (λ z. omega arith)
+    no-end : (i : ℕ) → i < length s → end (byteAt s i) ≡ false
+    no-end i k = let f = each i .fits in let x = inside s i 0 256 k in ne-eqb (byteAt s i) 256 (λ z. omega arith)
+
+    -- Up to the same quote, or to the end.
+    scanned : Quoted quotedNeverClosed step s at q p
+    scanned =
+        let v = quote-begins {n = quotedNeverClosed} {t = step} o e in
+        record { opens = o; first = e; turns = turns-over (only q) (v .turns) (l .clear) passes }
+      where
+        passes : (i : ℕ) → i < length s → only q (byteAt s i) ≡ false
+            → parsed s (turn quotedNeverClosed step (byteAt s at)) at i ≡ got true (byte (byteAt s i) nil) (i + 1)
+        passes i k n =
+            turn-in s _ at i quotedNeverClosed step (byteAt s at) (no-end i k) (sym (ap (eqb (byteAt s i)) e) ∙ n)
+            ∙ step-is s _ at i k
+
+    -- The input ends.
+    pub quoted-open : length s ≤ p → Leaf nothing (No quotedNeverClosed at at 0 0) s quoted at 2
+    quoted-open h =
+        let x = eq-eqb (byteAt s p) 256 (List·getD-eq-default s 256 h) in
+        leaf-stop nothing s quoted at 2 refl
+        (quoted-as s at (refuses scanned (turn-end s (suc (length s)) at p quotedNeverClosed step (byteAt s at) x)))
 
     -- The same quote.
-    pub quoted-ends : b ≡ q → Leaf nothing (Got (p + 1) 0) s quoted at 2
-    quoted-ends x =
-        let o = v .turns .past in
-        let e = closes v no-end (eq-eqb _ _ (sym y ∙ x ∙ v .first)) i in
-        leaf-done nothing s quoted at 2 (p + 1) 0 (quoted-as s at e) refl (omega arith)
-
-    -- Another byte.
-    pub quoted-goes-on : {p₁ q₁ : ℕ} → (b ≡ q → ⊥) → p₁ ≡ p + 1 → q₁ ≡ q
-        → Quoted quotedNeverClosed step s at q₁ p₁
-    quoted-goes-on x g f =
-        let k = ne-eqb _ _ (λ e. x (y ∙ e ∙ sym (v .first))) in
-        let e = turn-in s _ at p quotedNeverClosed step (byteAt s at) no-end k ∙ step-is s _ at p i in
-        rw (g, f)
-        record { opens = v .opens; first = v .first; turns = turns-more (v .turns) e (omega arith) (omega arith) }
+    pub quoted-ends : p < length s → Leaf nothing (Got (p + 1) 0) s quoted at 2
+    quoted-ends i =
+        let k = l .clear .past in
+        let x = closes scanned (no-end p i) (sym (ap (eqb (byteAt s p)) e) ∙ l .met i) i in
+        leaf-done nothing s quoted at 2 (p + 1) 0 (quoted-as s at x) refl (omega arith)
 
 -- ---- a string inside braces
 
@@ -232,7 +249,6 @@ pub ruleset quote-steps = (
   quote-begins,
   quoted-open,
   quoted-ends,
-  quoted-goes-on,
   string-open,
   string-ends,
   string-escaped,

@@ -3,10 +3,8 @@ use mathlib.Core.Path.{_≡_, refl, sym, ap}
 use mathlib.Core.Bool.{Bool, true, false}
 use mathlib.Core.List.{List, [], _∷_}
 use mathlib.Core.Logic.{inl, inr}
-use Prim.Native.Nat.{ℕ, _≤_, _<_}
+use Prim.Native.Nat.{ℕ}
 use Prim.Native.Char.{code}
-use native.Mathlib.Omega.{arith}
-use lib.Bits.{bitAnd}
 use lib.Dec.{eqb}
 use borrow.Author.Tests.{eq-eqb, ne-eqb}
 use types.Run.{OneOf}
@@ -68,31 +66,4 @@ module _ {b : ℕ} where
   unfolding inText any
   text-is h = ap (λ (x : Bool). pick x false true) (sym (any-no stops b h))
 
-  -- With bit 6 left out, a byte that ends a text is 3B to 3E: another byte, but for the end, is one of a text.
-  module _ (end : b ≡ 256 → ⊥) where
-    outside : (0x3B ≤ bitAnd b 0xBF → bitAnd b 0xBF < 0x3F → ⊥) → true ≡ inText b
-    outside h = text-is none
-      where
-        folded : (k : ℕ) → b ≡ k → bitAnd b 0xBF ≡ bitAnd k 0xBF
-        folded k e = ap (λ (x : ℕ). bitAnd x 0xBF) e
-
-        none : OneOf stops b → ⊥
-        none (inl e) = let f = folded 60 e in h (omega arith) (omega arith)
-        none (inr (inl e)) = let f = folded 62 e in h (omega arith) (omega arith)
-        none (inr (inr (inl e))) = let f = folded 123 e in h (omega arith) (omega arith)
-        none (inr (inr (inr (inl e)))) = let f = folded 125 e in h (omega arith) (omega arith)
-        none (inr (inr (inr (inr e)))) = end e
-
-    -- Under them.
-    pub text-under : bitAnd b 0xBF < 0x3B → true ≡ inText b
-    text-under h = outside (λ i j. omega arith)
-
-    -- Over them.
-    pub text-over : 0x3F ≤ bitAnd b 0xBF → true ≡ inText b
-    text-over h = outside (λ i j. omega arith)
-
-  -- The end is none.
-  pub text-end : b ≡ 256 → false ≡ inText b
-  text-end h = text-not (inr (inr (inr (inr h))))
-
-pub ruleset test-steps = (is-first, is-second, quote-is, quote-not, text-not, text-is, text-under, text-over, text-end)
+pub ruleset test-steps = (is-first, is-second, quote-is, quote-not, text-not, text-is)

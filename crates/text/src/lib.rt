@@ -32,30 +32,12 @@ pub fn in_text(b: u32) -> bool
     }
 }
 
-// The same test, for many bytes in a row: with bit 6 left out, `<`, `>`, `{` and `}` are 3B to 3E hex, so that one
-// comparison tells most bytes of a text.
-fn stays_in_text(b: u32) -> bool
-    ensures { λ r. ⌜ r ≡ inText b ⌝ }
-{
-    if b == END {
-        return false;
-    }
-    match b & 0xBF {
-        0x3B..=0x3E => in_text(b),
-        _ => true,
-    }
-}
-
 // A text, whose first byte was seen: its end. (The text's case of the Rust's `read_jsx_child`.)
 pub fn read_jsx_text(s: &[u8], at: usize) -> usize
     requires { ⌜ (at ≤ length (now s)) × (inText (byteAt (now s) at) ≡ true) ⌝ }
     ensures { λ r. ⌜ Past r (now (s .entry)) text at 1 ⌝ }
 {
-    let mut p = at + 1;
-    while stays_in_text(lex::byte(s, p)) {
-        p = p + 1;
-    }
-    p
+    lanes::find_any(s, at + 1, LESS, GREATER, OPEN_BRACE, CLOSE_BRACE)
 }
 
 pub fn is_quote(b: u32) -> bool
@@ -74,12 +56,9 @@ pub fn read_jsx_string_literal(s: &[u8], at: usize) -> Ans
     ensures { λ r. ⌜ Leaf nothing r (now (s .entry)) quoted at 2 ⌝ }
 {
     let q = lex::byte(s, at);
-    let mut p = at + 1;
-    while p < s.len() {
-        if lex::byte(s, p) == q {
-            return Ans::Got(p + 1, 0);
-        }
-        p = p + 1;
+    let p = lanes::find(s, at + 1, q);
+    if p < s.len() {
+        return Ans::Got(p + 1, 0);
     }
     Ans::No(QUOTED_NEVER_CLOSED, at, at, 0, 0)
 }

@@ -1,15 +1,16 @@
 -- The loop over sequences, step by step.
 use mathlib.Core.Path.{_≡_, refl, sym, _∙_}
+use mathlib.Core.Bool.{true, false}
 use mathlib.Core.List.{List}
 use Prim.Native.Nat.{ℕ, _+_, _≤_, _<_}
 use native.Mathlib.Omega.{arith}
 use mir.Syntax.{w8}
 use mir.Val.{Fits}
 use lib.ListN.{length, getD, List·getD-eq-default}
-use borrow.Author.Tests.{lt-ltb, eq-eqb, ne-eqb}
+use borrow.Author.Tests.{lt-ltb, lt-leb, leb-false, eq-eqb, ne-eqb}
 use Rattle.rules.specs.Forest.{nil, byte}
 use Rattle.rules.specs.Rule.{Rule, stop, when, marked, _⇒_∣_}
-use Rattle.rules.specs.Parse.{byteAt, parsed, readAt, parse}
+use Rattle.rules.specs.Parse.{got, byteAt, parsed, readAt, parse}
 use Rattle.jsx.specs.Refusal.{notUtf8}
 use Rattle.jsx.specs.Byte.{end}
 use Rattle.jsx.specs.Utf8.{sequence, utf8}
@@ -17,6 +18,9 @@ use Rattle.lex.specs.Contract.{outOf, nothing, Leaf}
 use Rattle.lex.specs.declared.Ans.the-variants.{Got, No}
 use Rattle.lex.proofs.Laws.{inside, when-no, leaf-stop, leaf-done}
 use Rattle.lex.proofs.Turns.{Turns, turns-begin, turns-more, turns-end, turns-no}
+use Rattle.lanes.specs.Lanes.{beyond}
+use Rattle.lanes.specs.First.{First}
+use Rattle.lanes.proofs.Over.{turns-over}
 use Rattle.utf8.specs.Lead.{Ended}
 use Rattle.lex.proofs.Ranges.{in-range}
 
@@ -28,6 +32,21 @@ turn = when end ⇒ stop ∣ marked sequence
 pub utf8-begins : {s : List ℕ} → Turns s turn 0 0 0
 utf8-begins {s} = turns-begin s turn 0 0 (omega arith)
 
+module _ (s : List ℕ) (each : (k : ℕ) → Fits w8 (getD s k 0)) (p : ℕ) (i : p < length s) where
+  -- Within the input a turn reads a sequence.
+  on : parsed s turn 0 p ≡ readAt s (marked sequence) p
+  on =
+      let f = each p .fits in
+      let e = inside s p 0 256 i in
+      when-no s _ 0 p end stop (marked sequence) (ne-eqb (byteAt s p) 256 (λ z. omega arith))
+
+  -- A byte of ASCII is one.
+  passes : beyond (byteAt s p) ≡ false → parsed s turn 0 p ≡ got true (byte (byteAt s p) nil) (p + 1)
+  unfolding parse sequence
+  passes h =
+      let k = leb-false 0x80 (byteAt s p) h in
+      on ∙ rw (in-range 0x00 0x7F (byteAt s p) (omega arith) (omega arith), lt-ltb p (length s) i)
+
 module _ {s : List ℕ} {p : ℕ} (v : Turns s turn 0 0 p) where
   -- The input ends.
   pub utf8-ends : length s ≤ p → Leaf nothing (Got p 0) s utf8 0 0
@@ -35,31 +54,24 @@ module _ {s : List ℕ} {p : ℕ} (v : Turns s turn 0 0 p) where
   utf8-ends h = leaf-done nothing s utf8 0 0 p 0 (turns-end v (rw (List·getD-eq-default s 256 h))) refl (omega arith)
 
   module _ (i : p < length s) (each : (k : ℕ) → Fits w8 (getD s k 0)) where
-    on : parsed s turn 0 p ≡ readAt s (marked sequence) p
-    on =
-        let f = each p .fits in
+    -- ASCII bytes, from here on.
+    pub ascii-goes-on : getD s p 0 < 0x80 → {q : ℕ} → First beyond s (p + 1) q → Turns s turn 0 0 q
+    ascii-goes-on h l =
         let e = inside s p 0 256 i in
-        when-no s _ 0 p end stop (marked sequence) (ne-eqb (byteAt s p) 256 (λ z. omega arith))
-
-    -- An ASCII byte.
-    pub ascii-goes-on : getD s p 0 < 0x80 → Turns s turn 0 0 (p + 1)
-    unfolding parse sequence
-    ascii-goes-on h =
-        let e = inside s p 0 256 i in
-        let r = in-range 0x00 0x7F (byteAt s p) (omega arith) (omega arith) in
-        turns-more v {o = byte (byteAt s p) nil} (on ∙ rw (r, lt-ltb p (length s) i)) (omega arith) (omega arith)
+        let k = lt-leb 0x80 (byteAt s p) (omega arith) in
+        turns-over beyond (turns-more v (passes s each p i k) (omega arith) (omega arith)) (l .clear) (passes s each)
 
     module _ {q : ℕ} (l : Ended q s p) where
       -- No sequence begins here.
       pub utf8-stops : q ≡ p → Leaf nothing (No notUtf8 p p 0 0) s utf8 0 0
       unfolding utf8
-      utf8-stops h = leaf-stop nothing s utf8 0 0 refl (turns-no v (on ∙ l .is ∙ rw (eq-eqb q p h)))
+      utf8-stops h = leaf-stop nothing s utf8 0 0 refl (turns-no v (on s each p i ∙ l .is ∙ rw (eq-eqb q p h)))
 
       -- One does.
       pub utf8-goes-on : (q ≡ p → ⊥) → Turns s turn 0 0 q
       utf8-goes-on h =
           let o = outOf (readAt s (marked sequence) p) in
-          turns-more v {o = o} (on ∙ l .is ∙ rw (ne-eqb q p h)) (omega arith) (l .far .1)
+          turns-more v {o = o} (on s each p i ∙ l .is ∙ rw (ne-eqb q p h)) (omega arith) (l .far .1)
 
 -- What is asked: the byte at p, as the code has it.
 pub byte-here : (s : List ℕ) (p : ℕ) → p < length s → byteAt s p ≡ getD s p 0

@@ -1,4 +1,4 @@
-// The UTF-8 test of document 01. It looks at every byte once.
+// The UTF-8 test of document 01: each byte is looked at once, sixteen and eight at once where all are below 80 hex.
 use lex::Ans;
 use lex::refusal::NOT_UTF8;
 ghost use mathlib.Core.Path.{_≡_};
@@ -88,7 +88,7 @@ pub fn utf8(s: &[u8]) -> Ans
     while p < s.len() {
         let b = s[p];
         if b < 0x80 {
-            p = p + 1;
+            p = lanes::find_beyond(s, p + 1);
             continue;
         }
         let q = sequence(s, p, b);

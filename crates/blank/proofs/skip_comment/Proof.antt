@@ -13,8 +13,11 @@ Inv-loop s at p₀ p = Turns s commentTurn at (at + 2) p
 abbrev μ-loop : tie.MeasureT-loop
 μ-loop s at p₀ p = length s - p
 
-add-p : tie.Need-add-p Inv-loop μ-loop
-add-p c = search asked
+add-find : tie.Need-add-find Inv-loop μ-loop
+add-find c = search asked
+
+find-requires : tie.Need-find-requires Inv-loop μ-loop
+find-requires c κs = search asked
 
 loop-holds : tie.Need-loop-holds Inv-loop μ-loop
 loop-holds c = search comment-steps
@@ -25,14 +28,17 @@ byte-requires c κs = search asked
 two-at-requires : tie.Need-two-at-requires Inv-loop μ-loop
 two-at-requires c κs = search asked
 
-add-t7 : tie.Need-add-t7 Inv-loop μ-loop
-add-t7 c = search asked
+add-t8 : tie.Need-add-t8 Inv-loop μ-loop
+add-t8 c = search asked
 
 returns : tie.Need-returns Inv-loop μ-loop
 returns c = search comment-steps
 
-add-p-2 : tie.Need-add-p-2 Inv-loop μ-loop
-add-p-2 c = search asked
+add-find-2 : tie.Need-add-find-2 Inv-loop μ-loop
+add-find-2 c = search asked
+
+find-requires-2 : tie.Need-find-requires-2 Inv-loop μ-loop
+find-requires-2 c κs = search asked
 
 loop-less : tie.Need-loop-less Inv-loop μ-loop
 loop-less c = search asked
@@ -49,13 +55,15 @@ skip-comment-spec =
     (tie.spec
     Inv-loop
     μ-loop
-    add-p
+    add-find
+    find-requires
     loop-holds
     byte-requires
     two-at-requires
-    add-t7
+    add-t8
     returns
-    add-p-2
+    add-find-2
+    find-requires-2
     loop-less
     loop-again
     returns-2)

@@ -22,8 +22,23 @@ loop-holds c = search comment-steps
 line-ends-requires : tie.Need-line-ends-requires Inv-loop μ-loop
 line-ends-requires c κs = search asked
 
+byte-requires : tie.Need-byte-requires Inv-loop μ-loop
+byte-requires c κs = search asked
+
+add-find-line-stop : tie.Need-add-find-line-stop Inv-loop μ-loop
+add-find-line-stop c = search asked
+
+find-line-stop-requires : tie.Need-find-line-stop-requires Inv-loop μ-loop
+find-line-stop-requires c κs = search asked
+
 add-p-2 : tie.Need-add-p-2 Inv-loop μ-loop
 add-p-2 c = search asked
+
+loop-less-2 : tie.Need-loop-less-2 Inv-loop μ-loop
+loop-less-2 c = search asked
+
+loop-again-2 : tie.Need-loop-again-2 Inv-loop μ-loop
+loop-again-2 c = search comment-steps
 
 loop-less : tie.Need-loop-less Inv-loop μ-loop
 loop-less c = search asked
@@ -43,7 +58,12 @@ skip-line-comment-spec =
     add-p
     loop-holds
     line-ends-requires
-    add-p-2
+    byte-requires
+    add-find-line-stop
+    find-line-stop-requires
     loop-less
     loop-again
+    add-p-2
+    loop-less-2
+    loop-again-2
     returns)

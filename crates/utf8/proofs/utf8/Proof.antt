@@ -19,8 +19,11 @@ loop-holds c = search utf8-steps
 shared-slice-read-b : tie.Need-shared-slice-read-b Inv-loop μ-loop
 shared-slice-read-b c = search asked
 
-add-p : tie.Need-add-p Inv-loop μ-loop
-add-p c = search asked
+add-find-beyond : tie.Need-add-find-beyond Inv-loop μ-loop
+add-find-beyond c = search asked
+
+find-beyond-requires : tie.Need-find-beyond-requires Inv-loop μ-loop
+find-beyond-requires c κs = search asked
 
 loop-less : tie.Need-loop-less Inv-loop μ-loop
 loop-less c = search asked
@@ -51,7 +54,8 @@ utf8-spec =
     μ-loop
     loop-holds
     shared-slice-read-b
-    add-p
+    add-find-beyond
+    find-beyond-requires
     loop-less
     loop-again
     sequence-requires

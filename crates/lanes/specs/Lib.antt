@@ -1,0 +1,4 @@
+-- Words of eight bytes.
+pub mod Lanes
+-- Scans.
+pub mod First
