@@ -88,7 +88,12 @@ pub fn utf8(s: &[u8]) -> Ans
     while p < s.len() {
         let b = s[p];
         if b < 0x80 {
-            p = lanes::find_beyond(s, p + 1);
+            // One byte of ASCII alone, as a blank between words beyond it, is not worth a look ahead.
+            if lex::byte(s, p + 1) < 0x80 {
+                p = lanes::find_beyond(s, p + 2);
+                continue;
+            }
+            p = p + 1;
             continue;
         }
         let q = sequence(s, p, b);
