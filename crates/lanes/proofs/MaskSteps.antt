@@ -4,13 +4,13 @@ use mathlib.Core.Bool.{Bool, true, false}
 use Prim.Native.Nat.{ℕ, _+_, _*_, _^_, _<_}
 use native.Mathlib.Omega.{arith}
 use lib.Dec.{eqb, lit<}
-use lib.Bits.{bitAnd, bitOr, bitXor, and-le-l, and-le-r, xor-lt, xor-self, xor-add-and}
+use lib.Bits.{bitAnd, bitOr, bitXor, and-le-l, and-le-r, or-lt, xor-lt, xor-self, xor-add-and}
 use borrow.Author.Tests.{eqb-true, eqb-false, eq-eqb, ne-eqb}
 use Rattle.rules.specs.Rule.{Test}
 use Rattle.rules.specs.Parse.{pick}
 use Rattle.lex.proofs.Ranges.{each}
 use Rattle.lanes.specs.Lanes.{Marked, Cleared, beyond, only, anyOf}
-use Rattle.lanes.proofs.Spread.{Small, all-small, all-same}
+use Rattle.lanes.proofs.Spread.{Small, all-same}
 use Rattle.lanes.proofs.Spread.{lanes-self, lanes-copies, lanes-change, lanes-lanes}
 use Rattle.lanes.proofs.Spread.{lanes-and, lanes-or, lanes-xor, lanes-sum}
 
@@ -19,7 +19,7 @@ use Rattle.lanes.proofs.Spread.{lanes-and, lanes-or, lanes-xor, lanes-s
 pub beyond-marked : (w : ℕ) → Marked beyond w (bitAnd w 0x8080808080808080)
 unfolding each
 beyond-marked w =
-    let a = lanes-and (all-small (λ b. b) refl) (all-small (λ b. 0x80) refl) (lanes-self w) (lanes-copies 0x80 w) in
+    let a = lanes-and (λ b k. k) (λ b k. lit< tt) (lanes-self w) (lanes-copies 0x80 w) in
     record { lanes = lanes-change (all-same (λ b. bitAnd b 0x80) (λ b. pick (beyond b) 0x80 0) refl) a }
 
 -- ---- lanes that are 0
@@ -32,13 +32,12 @@ pub zeros-cleared : (x : ℕ)
     → Cleared (only 0) x (bitOr (bitOr (bitAnd x 0x7F7F7F7F7F7F7F7F + 0x7F7F7F7F7F7F7F7F) x) 0x7F7F7F7F7F7F7F7F)
 unfolding each
 zeros-cleared x =
-    let id = all-small (λ b. b) refl in
-    let low = all-small (λ b. 0x7F) refl in
+    let low : (b : ℕ) → bitAnd b 0x7F + 0x7F < 256 = λ b. let l = and-le-r b 0x7F in omega arith in
     let ones = lanes-copies 0x7F x in
-    let a = lanes-and id low (lanes-self x) ones in
-    let b = lanes-sum (all-small (λ b. bitAnd b 0x7F) refl) low a ones in
-    let c = lanes-or (all-small (λ b. bitAnd b 0x7F + 0x7F) refl) id b (lanes-self x) in
-    let d = lanes-or (all-small (λ b. bitOr (bitAnd b 0x7F + 0x7F) b) refl) low c ones in
+    let a = lanes-and (λ b k. k) (λ b k. lit< tt) (lanes-self x) ones in
+    let b = lanes-sum (λ b k. let l = low b in omega arith) (λ b k. lit< tt) a ones in
+    let c = lanes-or (λ b k. low b) (λ b k. k) b (lanes-self x) in
+    let d = lanes-or (λ b k. or-lt 8 (bitAnd b 0x7F + 0x7F) b (low b) k) (λ b k. lit< tt) c ones in
     let e = all-same (λ b. bitOr (bitOr (bitAnd b 0x7F + 0x7F) b) 0x7F) (λ b. pick (eqb b 0) 0x7F 0xFF) refl in
     record { lanes = lanes-change e d }
 

@@ -5,21 +5,15 @@ use mathlib.Core.List.{List, [], _∷_}
 use Prim.Native.Nat.{ℕ, zero, suc, _+_, _*_, _<_}
 use native.Mathlib.Omega.{arith}
 use lib.ListN.{length}
-use lib.Dec.{eqb, ltb}
+use lib.Dec.{eqb}
 use lib.Bits.{bitAnd, bitOr, bitXor, and-block, or-block, xor-block}
-use borrow.Author.Tests.{eqb-true, ltb-true}
+use borrow.Author.Tests.{eqb-true}
 use Rattle.lex.proofs.Ranges.{each, each-passes}
 use Rattle.lanes.specs.Lanes.{spread, Bytes, Lanes}
 
 -- What g gives of a byte is a byte.
 abbrev pub Small : (ℕ → ℕ) → Type 0
 Small g = (b : ℕ) → b < 256 → g b < 256
-
--- ---- tests of every byte, computed
-
--- What g gives of a byte is a byte, if it is of each.
-pub all-small : (g : ℕ → ℕ) → each (λ b. ltb (g b) 256) 0 256 ≡ true → Small g
-all-small g h b k = ltb-true (g b) 256 (each-passes (λ x. ltb (g x) 256) 0 256 h b (omega arith) (omega arith))
 
 -- g and h give the same of a byte, if they do of each.
 pub all-same : (g h : ℕ → ℕ) → each (λ b. eqb (g b) (h b)) 0 256 ≡ true → (b : ℕ) → b < 256 → g b ≡ h b
