@@ -68,7 +68,8 @@ module _ (s : List ℕ) (each : (k : ℕ) → Fits w8 (getD s k 0)) (at : ℕ) w
           Lex.leaf-done nothing s comment at 4 (p + 2) 0 (Laws.comment-got s at h e (omega arith)) refl (omega arith)
 
       -- Another byte of the comment, up to the next star.
-      pub comment-goes-on : t ≡ false → {q : ℕ} → First (only (code "*")) s (p + 1) q → Turns s commentTurn at (at + 2) q
+      pub comment-goes-on : t ≡ false → {q : ℕ} → First (only (code "*")) s (p + 1) q
+          → Turns s commentTurn at (at + 2) q
       comment-goes-on z l =
           let o = Lex.not-end s p (λ e. x (y ∙ e)) (v .inside) in
           let e = Laws.comment-step s (suc (length s)) at p (Lex.byte-not y x) (sym i ∙ z) o in
@@ -111,7 +112,8 @@ plain-not : (b : ℕ) → lineStop b ≡ false → lineTerminator b ≡ false
 plain-not b h =
     let k = plain-low b h in
     go (lineStop b) h
-    (each-passes (λ x. pick (lineStop x) true (not (lineTerminator x))) 0 0x80 plain-tests b (omega arith) (omega arith))
+    (each-passes (λ x. pick (lineStop x) true (not (lineTerminator x))) 0 0x80 plain-tests b (omega arith)
+    (omega arith))
   where
     go : (x : Bool) → x ≡ false → pick x true (not (lineTerminator b)) ≡ true → lineTerminator b ≡ false
     go true e f = never (sym e)

@@ -98,7 +98,8 @@ module _ {f : Test} {w u : ℕ} (l : Cleared f w u) where
       go false = refl
 
 -- Marks together.
-pub both-marked : {f g : Test} {w u v : ℕ} → Marked f w u → Marked g w v → Marked (λ b. pick (f b) true (g b)) w (bitOr u v)
+pub both-marked : {f g : Test} {w u v : ℕ} → Marked f w u → Marked g w v
+    → Marked (λ b. pick (f b) true (g b)) w (bitOr u v)
 both-marked {f} {g} l m = record {
   lanes = lanes-change (λ b k. go (f b) (g b)) (lanes-or (small-mark f) (small-mark g) (l .lanes) (m .lanes));
 }

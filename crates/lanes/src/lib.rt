@@ -1,4 +1,4 @@
-// Eight bytes at once: they stand as the lanes of one word, the first byte in the lowest lane. Request 2 of document 02.
+// Eight bytes at once: they stand as the lanes of one word, the first byte in the lowest lane. (Request 2.)
 ghost use mathlib.Core.Path.{_≡_};
 ghost use Prim.Native.Nat.{_+_, _/_, _≤_, _<_};
 ghost use lib.ListN.{length};
