@@ -24,7 +24,7 @@ use Rattle.jsx.specs.Depth.{within}
 use Rattle.jsx.specs.Reading.{run}
 use Rattle.jsx.specs.Compose.{Reads, bytesBetween}
 use Rattle.jsx.proofs.Paired.{wellPaired}
-use Rattle.jsx.proofs.Shape.{contentOf, closer}
+use Rattle.jsx.proofs.Shape.{contentOf, closer, closer-low}
 use Rattle.jsx.proofs.Child.{inner, tbody, TextByte, tstop, tstep, text-byte, byte-step, byte-stop, textNode}
 use Rattle.jsx.proofs.Child.{cbody, Child, ends, aText, other, child-of, text-child, end-stop}
 use Rattle.jsx.proofs.JoinRead.{run-is}
@@ -119,7 +119,8 @@ module _ (x y : List ℕ) (Fx Fz e d : ℕ) (enough : length x < Fx) where
           let g = long in
           local-got (Lacks closer) (x ++ y) x 0 0 at p (suc p) (omega arith)
           (before (x ++ y) x p (λ m lm. byte-same m (omega arith)) (omega arith) le closer
-          (λ j ej. subst (λ (n : ℕ). closer (byteAt (x ++ y) n) ≡ true) (omega (arith, la .1)) (la .2)) at)
+          (λ j ej. subst (λ (n : ℕ). closer (byteAt (x ++ y) n) ≡ true) (omega (arith, la .1)) (la .2))
+          (λ k. closer-low) at)
           Fz Fx t e e at at (omega arith) refl (le-refl _) lk h (omega arith)
 
   -- Children that end where x ends.

@@ -20,9 +20,9 @@ blank-cases =
     & "\u{2007}\u{2008}\u{2009}\u{200a}\u{2028}\u{2029}\u{202f}\u{205f}\u{3000}\u{feff}")
     (counted 5)
 
--- 1.2: their neighbours.
+-- 1.2: their neighbours, but for U+200C and U+200D, which are a name's.
 abbrev other-cases : List Case
-other-cases = between "\u{85}\u{ad}\u{180e}\u{200b}\u{200c}\u{200d}\u{200e}\u{200f}\u{2060}" (at 3 2)
+other-cases = between "\u{85}\u{ad}\u{180e}\u{200b}\u{200e}\u{200f}\u{2060}" (at 3 2)
 
 abbrev place-cases : List Case
 place-cases =

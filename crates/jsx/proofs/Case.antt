@@ -80,8 +80,11 @@ unfolding Rattle.rules.specs.Forest._⋈_ Rattle.rules.specs.Forest.width Ratt
     Rattle.jsx.specs.Blank.blankChar
     Rattle.jsx.specs.Blank.commentTurn Rattle.jsx.specs.Blank.comment Rattle.jsx.specs.Blank.lineTurn
     Rattle.jsx.specs.Blank.lineComment Rattle.jsx.specs.Blank.blank Rattle.jsx.specs.Blank.blanks
-    Rattle.jsx.specs.Blank.pass Rattle.jsx.specs.Name.opensName Rattle.jsx.specs.Name.inWord
-    Rattle.jsx.specs.Name.inName Rattle.jsx.specs.Name.part Rattle.jsx.specs.Name.has
+    Rattle.jsx.specs.Blank.pass Rattle.jsx.specs.Ranges.startRanges
+    Rattle.jsx.specs.Ranges.continueRanges Rattle.jsx.specs.Unicode.inRanges
+    Rattle.jsx.specs.Unicode.idStart Rattle.jsx.specs.Unicode.idContinue
+    Rattle.jsx.specs.Name.opensName Rattle.jsx.specs.Name.inWord Rattle.jsx.specs.Name.opensPart
+    Rattle.jsx.specs.Name.inPart Rattle.jsx.specs.Name.part Rattle.jsx.specs.Name.has
     Rattle.jsx.specs.Name.same Rattle.jsx.specs.Name.firstIs Rattle.jsx.specs.Name.dashed
     Rattle.jsx.specs.Name.isThis Rattle.jsx.specs.Name.opensReference Rattle.jsx.specs.Name.oneName
     Rattle.jsx.specs.Name.onePart Rattle.jsx.specs.Name.otherPart Rattle.jsx.specs.Name.namespaced

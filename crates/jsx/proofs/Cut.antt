@@ -21,7 +21,7 @@ use Rattle.rules.proofs.Reach.{reach, step-got}
 use Rattle.jsx.specs.Byte.{end, _‥_, _or_}
 use Rattle.jsx.specs.Utf8.{second, other, sequence}
 use Rattle.jsx.specs.Compose.{WellFormed}
-use Rattle.jsx.proofs.Pieces.{anyByte, anyNode, oneTurn, flow-turn, turning, reading-loop, turn-within, turn-up}
+use Rattle.jsx.proofs.Pieces.{anyByte, any-not-alone, anyNode, oneTurn, flow-turn, turning, reading-loop, turn-within, turn-up}
 use Rattle.jsx.proofs.Pieces.{turn-stops, got-good, good-got, good-join, good-rest}
 
 -- ---- rules that read no ASCII byte
@@ -239,7 +239,8 @@ module _ (x y : List ℕ) where
       let l = reach (λ d. done) anyByte anyNode (x ++ y) (suc (length (x ++ y))) (flow-turn (λ d. done)) 0 at true o p h
       (length x) t .0 in
       let g = local-got (Lacks anyByte) (x ++ y) x 0 0 0 (length x) (suc (length x)) (omega arith)
-      (before (x ++ y) x (length x) (λ q r. sym (byte-in x y q r)) (omega arith) (omega arith) anyByte (λ j e. refl) 0)
+      (before (x ++ y) x (length x) (λ q r. sym (byte-in x y q r)) (omega arith) (omega arith) anyByte (λ j e. refl)
+      any-not-alone 0)
       (suc (length (x ++ y))) (suc (length x)) oneTurn 0 0 at at (omega arith) refl (omega arith) l h (omega arith) in
       let k = g .2 in
       g .1 ∙ ap (got true o) (omega arith)

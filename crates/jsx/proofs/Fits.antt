@@ -10,7 +10,7 @@ use Prim.Native.Char.{Char}
 use lib.ListN.{length}
 use Rattle.rules.specs.Forest.{Forest, width}
 use Rattle.rules.specs.Rule.{Test, Rule, stop, step, seq, many, said, _⨾_}
-use Rattle.rules.specs.Parse.{got, pick, byteAt, parse, parsed, parseAll}
+use Rattle.rules.specs.Parse.{got, pick, byteAt, codeAt, parse, parsed, parseAll}
 use Rattle.rules.specs.Record.{count}
 use Rattle.rules.proofs.Forests.{count-behind, width-behind}
 use Rattle.rules.proofs.Run.{goes, both-read}
@@ -20,9 +20,9 @@ use Rattle.rules.proofs.Fits.{Fits, f-weak, f-down, f-done, f-stop, f-step, f-r
 use Rattle.rules.proofs.Fits.{f-look, f-after, f-seq, f-many, f-wrap, f-said, f-marked, f-paired, Pays, pick-least}
 use Rattle.rules.proofs.Fits.{pick-same, pays-first, pays, Spends, thrifty, thrifty-far, one-a-byte}
 use Rattle.jsx.specs.Kind as Kind
-use Rattle.jsx.specs.Byte.{is, _or_, need, expect}
+use Rattle.jsx.specs.Byte.{is, _or_, character, need, expect}
 use Rattle.jsx.specs.Blank.{commentTurn, comment, lineTurn, lineComment, blank, blanks, pass}
-use Rattle.jsx.specs.Name.{opensName, inWord, inName, part, onePart, otherPart, namespaced, dottedPart, object}
+use Rattle.jsx.specs.Name.{opensPart, part, onePart, otherPart, namespaced, dottedPart, object}
 use Rattle.jsx.specs.Name.{dotted, member, elementName, attributeName}
 use Rattle.jsx.specs.Text.{text, quotedTurn, quotedBy, quoted}
 use Rattle.jsx.specs.Word.{word, primaryWord, digits, whole, fraction, number, stringTurn, stringBy, string}
@@ -37,10 +37,11 @@ use Rattle.jsx.specs.Tag.{openTag, openFragment, closeName, closeTag}
 use Rattle.jsx.specs.Element.{child, children, fragmentIn, namedIn, elementIn}
 use Rattle.jsx.specs.Depth.{elementTooDeep, noLevel, level, within}
 use Rattle.jsx.specs.Reading.{stage, run}
+use Rattle.jsx.proofs.Unicode.{opens-goes-on}
 
--- Credits here may depend on whether the byte opens a name.
+-- Credits here may depend on whether the character opens a part of a name.
 abbrev pub C : (n y : ℕ) → Rule → (gn gy kn ky : ℕ) → Type 0
-C n y t gn gy kn ky = Fits opensName n y t gn gy kn ky
+C n y t gn gy kn ky = Fits opensPart n y t gn gy kn ky
 
 -- The rule leaves the five credits that it was given. What it leaves where it stops is open: none of these stops.
 abbrev pub Keeps : Rule → Type 0
@@ -192,14 +193,14 @@ ruleset keeps-rules = (
 
 -- ---- names
 
-in-name : (b : ℕ) → opensName b ≡ true → inName b ≡ true
-unfolding inName inWord
-in-name b e = rw e
+-- The first byte of a character brings a credit.
+character-one : {i kn ky : ℕ} → C i i character (suc i) (suc i) kn ky
+character-one = search one-rules depth 12
 
--- Behind a part no byte stands that opens a name.
+-- Behind a part no character stands that opens one.
 part-one : {n y z kn ky : ℕ} → C n y part (suc y) z kn ky
 unfolding part
-part-one = f-seq (f-hungry f-step need-any) (f-many (f-calm in-name (step-keeps flat) f-stop))
+part-one = f-seq (f-hungry character-one need-any) (f-many (f-calm opens-goes-on (spare character-one) f-stop))
 
 onePart-keeps : {n y z kn ky : ℕ} → C (suc n) (suc y) onePart (suc y) z kn ky
 unfolding onePart
@@ -446,17 +447,17 @@ stage-keeps d = search (keeps-rules, within-keeps d .element) depth 8
 
 -- At most k nodes more than bytes, in every reading by the rule.
 abbrev pub Few : ℕ → Rule → Type 0
-Few k t = Spends opensName k t
+Few k t = Spends opensPart k t
 
 module _ {k : ℕ} {t : Rule} (x : Few k t) (s : List ℕ) (e at : ℕ) {a : Bool} {o : Forest} {p : ℕ}
     (h : parsed s t e at ≡ got a o p) where
   -- What was got has at most k nodes more than bytes,
   pub nodes-few : count o ≤ width o + k
-  nodes-few = thrifty opensName s (suc (length s)) x e at h
+  nodes-few = thrifty opensPart s (suc (length s)) x e at h
 
   -- and ends at most k places before as many as it has nodes.
   pub nodes-far : at + count o ≤ p + k
-  nodes-far = thrifty-far opensName s (suc (length s)) x e at h
+  nodes-far = thrifty-far opensPart s (suc (length s)) x e at h
 
 kept : {t : Rule} → Keeps t → Few 0 t
 kept x = record { left = 5; fits = x 5 5 }
@@ -565,10 +566,10 @@ module _ (s : List ℕ) (F e : ℕ) where
       → {a : Bool} {o : Forest} {p : ℕ} → parse s F (many dotted) e at ≡ got a o p → suc (count o) ≤ width o
   unfolding parse dotted
   dots-pay at {v} {q} k dot {a} {o} {p} h =
-      let w = pays-first opensName s F {jn = 1} {jy = 2} (parse s F dotted e) F at first others h .enough in
-      let left = pick-least (opensName (byteAt s p)) (pick-least a {x = 2} {y = 2} (omega arith) (omega arith))
+      let w = pays-first opensPart s F {jn = 1} {jy = 2} (parse s F dotted e) F at first others h .enough in
+      let left = pick-least (opensPart (codeAt s p)) (pick-least a {x = 2} {y = 2} (omega arith) (omega arith))
       (pick-least a {x = 1} {y = 1} (le-refl 1) (le-refl 1)) in
-      omega (arith, w, left, pick-same (opensName (byteAt s at)) 0)
+      omega (arith, w, left, pick-same (opensPart (codeAt s at)) 0)
     where
       seen : parse s F dotted e at ≡ parse s F dotAndPart e at
       seen =
@@ -576,12 +577,12 @@ module _ (s : List ℕ) (F e : ℕ) where
           ∙ (λ i. pick (dot i) (parse s F dotAndPart e at) (parse s F stop e at))
 
       first : (c : Bool) (u : Forest) (z : ℕ) → parse s F dotted e at ≡ got c u z
-          → Pays 0 0 1 2 1 2 (opensName (byteAt s at)) (opensName (byteAt s z)) c u
-      first c u z r = pays opensName s F dot-one e at c u z (sym seen ∙ r)
+          → Pays 0 0 1 2 1 2 (opensPart (codeAt s at)) (opensPart (codeAt s z)) c u
+      first c u z r = pays opensPart s F dot-one e at c u z (sym seen ∙ r)
 
       others : (x : ℕ) (c : Bool) (u : Forest) (z : ℕ) → parse s F dotted e x ≡ got c u z
-          → Pays 1 2 1 2 1 2 (opensName (byteAt s x)) (opensName (byteAt s z)) c u
-      others x c u z r = pays opensName s F dotted-keeps e x c u z r
+          → Pays 1 2 1 2 1 2 (opensPart (codeAt s x)) (opensPart (codeAt s z)) c u
+      others x c u z r = pays opensPart s F dotted-keeps e x c u z r
 
   -- A member that begins at a part with a dot behind it.
   member-pays : (at : ℕ) {b : Bool} {v : Forest} {q : ℕ}
@@ -597,7 +598,7 @@ module _ (s : List ℕ) (F e : ℕ) where
       let seen = both-read s F part blanks e at (going s F (part ⨾ blanks) e at refl look) in
       let p = got-same (sym (seen .3) ∙ first .1) .2 in
       let dots = dots-pay (two .1) (ap (parse s F blanks e) (sym p) ∙ seen .4) dot (two .4) in
-      let part = thrifty opensName s F {k = 0} (record { left = 1; fits = object-keeps }) e at (two .3) in
+      let part = thrifty opensPart s F {k = 0} (record { left = 1; fits = object-keeps }) e at (two .3) in
       omega (
         arith,
         dots,
@@ -619,7 +620,7 @@ module _ (s : List ℕ) (F e : ℕ) where
   elementName-few at {a} {o} {p} h =
       let look = then-got (parse s F (part ⨾ blanks) e at) _ h in
       pick-case (is ":" (byteAt s (look .2))) (parse s F namespaced e at) _ (look .4)
-      (λ k. omega (arith, thrifty opensName s F {k = 0} (record { left = 2; fits = namespaced-keeps }) e at k))
+      (λ k. omega (arith, thrifty opensPart s F {k = 0} (record { left = 2; fits = namespaced-keeps }) e at k))
       (λ k. let again = then-got (parse s F (part ⨾ blanks) e at) _ k in
       by (again .3) (is "." (byteAt s (again .2))) refl (again .4))
     where
@@ -630,14 +631,14 @@ module _ (s : List ℕ) (F e : ℕ) where
           → count o ≤ width o
       by look true dot k = member-pays at look dot k
       by look false dot k =
-          omega (arith, thrifty opensName s F {k = 0} (record { left = 1; fits = onePart-keeps }) e at k)
+          omega (arith, thrifty opensPart s F {k = 0} (record { left = 1; fits = onePart-keeps }) e at k)
 
 -- A run has at most as many records as the input has bytes.
 pub run-few : (d : ℕ) (s : List ℕ) {a : Bool} {u : Forest} {p : ℕ} → parseAll (run d) s ≡ got a u p → count u ≤ length s
-run-few d s k = one-a-byte opensName (kept (run-keeps d)) s k
+run-few d s k = one-a-byte opensPart (kept (run-keeps d)) s k
 
 -- So has a stage.
 pub stage-few : (d : ℕ) (s : List ℕ) {a : Bool} {u : Forest} {p : ℕ}
     → parseAll (stage d) s ≡ got a u p
     → count u ≤ length s
-stage-few d s k = one-a-byte opensName (kept (stage-keeps d)) s k
+stage-few d s k = one-a-byte opensPart (kept (stage-keeps d)) s k

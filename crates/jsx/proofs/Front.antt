@@ -26,9 +26,9 @@ use Rattle.jsx.specs.Text.{inText}
 use Rattle.jsx.specs.Element.{child}
 use Rattle.jsx.specs.Compose.{textLabel}
 use Rattle.jsx.specs.Depth.{within}
-use Rattle.jsx.proofs.Pieces.{anyByte, anyNode}
+use Rattle.jsx.proofs.Pieces.{anyByte, any-not-alone, anyNode}
 use Rattle.jsx.proofs.Paired.{wellPaired}
-use Rattle.jsx.proofs.Shape.{contentOf, closer}
+use Rattle.jsx.proofs.Shape.{contentOf, closer, closer-low}
 use Rattle.jsx.proofs.Child.{inner, text-in, tbody, TextByte, tstop, tstep, text-byte, byte-step, byte-stop}
 use Rattle.jsx.proofs.Child.{text-ends, cbody, Child, ends, aText, other, child-of, text-child, end-stop}
 
@@ -143,7 +143,8 @@ module _ (x y : List ℕ) (px : Plain x) (Fx Fz e d : ℕ) (big : length (x ++ y
         res : (n : ℕ) × (parse (x ++ y) Fz t e at ≡ got true o n) × (p + 0 ≡ n + 0)
         res = let g = long in local-got (Lacks closer) x (x ++ y) 0 0 at p (suc p) (omega arith)
             (before x (x ++ y) p (λ m lm. byte-in x y m (omega arith)) le (omega arith) closer
-            (λ j ej. subst (λ (n : ℕ). closer (byteAt x n) ≡ true) (omega (arith, la .1)) (la .2)) at) Fx Fz t e e at at
+            (λ j ej. subst (λ (n : ℕ). closer (byteAt x n) ≡ true) (omega (arith, la .1)) (la .2))
+            (λ k. closer-low) at) Fx Fz t e e at at
             (omega arith) refl (le-refl _) lk h (omega arith)
 
     xt : (at : ℕ) {c : Forest} {p : ℕ}
@@ -156,7 +157,7 @@ module _ (x y : List ℕ) (px : Plain x) (Fx Fz e d : ℕ) (big : length (x ++ y
         res : (n : ℕ) × (parse (x ++ y) Fz (many inner) e at ≡ got true c n) × (p + 0 ≡ n + 0)
         res = let g = long in local-got (Lacks anyByte) x (x ++ y) 0 0 at (1 + p) (1 + p) (omega arith)
             (before x (x ++ y) (1 + p) (λ m lm. byte-in x y m (omega arith)) (omega arith) (omega arith) anyByte
-            (λ j ej. refl) at) Fx Fz (many inner) e e at at (omega arith) refl (le-refl _)
+            (λ j ej. refl) any-not-alone at) Fx Fz (many inner) e e at at (omega arith) refl (le-refl _)
             (reach contentOf anyByte anyNode x Fx texts-flow e at true c p h (1 + p) (omega arith) .0) h (omega arith)
 
     -- x is at its end.

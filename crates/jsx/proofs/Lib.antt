@@ -18,6 +18,8 @@ pub mod Depths
 pub mod Unclosed
 -- Blanks beyond ASCII, and the ends of `//` comments.
 pub mod Blanks
+-- Names in the author's script.
+pub mod Scripts
 -- Limits, the table's room, the bytes of a record, and what the program prints.
 pub mod Calls
 -- ---- How the rules read
@@ -26,6 +28,9 @@ pub mod Calls
 pub mod Steady
 -- A node that is called paired has a content and a closing tag.
 pub mod Paired
+-- The tables of name characters: in order, with no range into another; a first character may be a later one; no blank
+-- is in them.
+pub mod Unicode
 -- How far each rule looks.
 pub mod Shape
 -- What may be entered one level deeper always goes on.

@@ -239,7 +239,7 @@ module _ (n : Inner) (h : InnerFine n) where
 no-level-fine : InnerFine noLevel
 unfolding NumberedBy noLevel elementTooDeep
 no-level-fine = record {
-  element = pass-fine & refl & need-fine;
+  element = pass-fine & refl & refl & need-fine;
   childBraces = refl;
   valueBraces = refl;
   spreadBraces = refl;

@@ -6,7 +6,7 @@ use mathlib.Core.List.{List, [], _++_}
 use Prim.Native.Nat.{ℕ, zero, suc, _+_, _≤_, _<_}
 use native.Mathlib.Omega.{arith}
 use lib.ListN.{length, length-append}
-use lib.Dec.{eqb}
+use lib.Dec.{eqb, ltb}
 use borrow.Author.Tests.{eqb-true}
 use Rattle.rules.specs.Forest.{Label, Forest, nil, _⋈_}
 use Rattle.rules.specs.Rule.{Test, Rule, done, stop, when, seq, marked}
@@ -15,7 +15,7 @@ use Rattle.rules.proofs.Run.{never, goes, on, got-goes, behind-none, loop-more}
 use Rattle.rules.proofs.Got.{trouble-got, got-same, behind-got}
 use Rattle.rules.proofs.Local.{Up, up, local-got}
 use Rattle.rules.proofs.Ends.{top-got, sees, Turn, last, goon, turn, refuel}
-use Rattle.rules.proofs.Agree.{Lacks, before, moved-along, byte-in, byte-behind, Plain, byte-end}
+use Rattle.rules.proofs.Agree.{heads, Lacks, before, moved-along, byte-in, byte-behind, Plain, byte-end}
 use Rattle.rules.proofs.Flow.{Mode, near, tight, same, tight-near, seen-near, advances, Flow, f-weak, f-stop, f-step}
 use Rattle.rules.proofs.Flow.{f-refuse, f-when, f-seq, f-many, f-marked}
 use Rattle.rules.proofs.Reach.{reach}
@@ -31,6 +31,10 @@ use Rattle.jsx.specs.Compose.{IsGot, WellFormed}
 -- Any byte closes.
 abbrev pub anyByte : Test
 anyByte b = true
+
+-- So no character is asked: some bytes go on with one.
+pub any-not-alone : ((b : ℕ) → anyByte b ≡ true → heads b ≡ true) → (b : ℕ) → anyByte b ≡ true → ltb b 0x80 ≡ true
+any-not-alone h b e = never (h 0x80 refl)
 
 -- And every node is as it may be.
 abbrev pub anyNode : Label → Forest → Type 0
@@ -192,7 +196,7 @@ module _ (x y : List ℕ) where
       let l = reach (λ d. done) anyByte anyNode x (suc (length x)) (flow-turn (λ d. done)) 0 at true o p h
       (length x) t .0 in
       let g = local-got (Lacks anyByte) x (x ++ y) 0 0 0 (length x) (suc (length x)) (omega arith)
-      (before x (x ++ y) (length x) (byte-in x y) (omega arith) (omega arith) anyByte (λ j e. refl) 0)
+      (before x (x ++ y) (length x) (byte-in x y) (omega arith) (omega arith) anyByte (λ j e. refl) any-not-alone 0)
       (suc (length x)) (suc (length (x ++ y))) oneTurn 0 0 at at (omega arith) refl (omega arith) l h (omega arith) in
       let k = g .2 in
       g .1 ∙ ap (got true o) (omega arith)

@@ -50,7 +50,7 @@ first-ten =
     ∷ on stage "<a>{iff" (at 4 7)
     -- A7
     ∷ on stage "<a>{1é}</a>" (at 3 5)
-    ∷ on stage "<aé/>" (at 3 2)
+    ∷ on stage "<aé/>" (counted 3)
     ∷ on stage "<a>{bé}</a>" (at 3 5)
     -- A8
     ∷ on stage "<a>{\"b\\" (at 3 6)

@@ -25,7 +25,7 @@ use Rattle.jsx.specs.Compose.{textLabel, Reads}
 use Rattle.jsx.specs.Depth.{within}
 use Rattle.jsx.specs.Reading.{run}
 use Rattle.jsx.proofs.Paired.{wellPaired}
-use Rattle.jsx.proofs.Shape.{contentOf, closer, L}
+use Rattle.jsx.proofs.Shape.{contentOf, closer, closer-low, L}
 use Rattle.jsx.proofs.Child.{cbody, stops-at}
 use Rattle.jsx.proofs.Front.{front}
 use Rattle.jsx.proofs.JoinRead.{run-of, read-behind}
@@ -148,7 +148,8 @@ module _ (t : Rule) (g k : Mode) (ut : L near t g k) (s y : List ℕ) (py : Plai
       let X = refill contentOf closer wellPaired s s′ d c₀ v p (p + length y) (width c₀) (length y)
       (omega (arith, bp, b-le)) (omega (arith, length-s′)) ante post (omega (arith, length-s′, length-z, bp))
       (omega arith) (omega arith)
-      (λ j ej. let c = f .closed in subst (λ (n : ℕ). closer (byteAt s n) ≡ true) (omega (arith, c .1)) (c .2)) reads ut
+      (λ j ej. let c = f .closed in subst (λ (n : ℕ). closer (byteAt s n) ≡ true) (omega (arith, c .1)) (c .2))
+      closer-low reads ut
       0 0 0 true u q (omega arith) tt hs ω (omega arith) in
       (X .0, X .1)
 

@@ -14,6 +14,7 @@ use Rattle.rules.proofs.Flow.{Mode, shut, near, pend, same, shut-near, shut-pen
 use Rattle.rules.proofs.Flow.{seen-near, seen-pend, clear, advances, lacking, Flow, f-weak, f-done, f-stop, f-step}
 use Rattle.rules.proofs.Flow.{f-refuse, f-when, f-expect, f-look, f-after, f-seq, f-many, f-wrap, f-said, f-marked}
 use Rattle.rules.proofs.Flow.{f-paired, f-pass, f-last}
+use Rattle.rules.proofs.Agree.{heads}
 use Rattle.jsx.specs.Kind as Kind
 use Rattle.jsx.specs.Byte.{is, _or_, need, expect}
 use Rattle.jsx.specs.Blank.{commentTurn, comment, lineTurn, lineComment, blank, blanks, pass}
@@ -104,8 +105,8 @@ unfolding expect
 expect-shut c h =
     f-expect (λ b e. subst (λ (n : ℕ). closer n ≡ true) (sym (eqb-true b (code c) e)) h) (need-flow seen-near)
 
--- A byte that closes is a character of its own.
-closer-low : (b : ℕ) → closer b ≡ true → ltb b 0x80 ≡ true
+-- A byte that closes is a character of its own,
+pub closer-low : (b : ℕ) → closer b ≡ true → ltb b 0x80 ≡ true
 unfolding closer
 closer-low b h = go (is ">" b) refl h
   where
@@ -113,9 +114,13 @@ closer-low b h = go (is ">" b) refl h
     go true e k = rw (eqb-true b (code ">") e)
     go false e k = rw (eqb-true b (code "}") k)
 
+-- and goes on with none.
+closer-heads : (b : ℕ) → closer b ≡ true → heads b ≡ true
+closer-heads b h = rw (closer-low b h)
+
 blanks-near : {k : Mode} → L near blanks near k
 unfolding blanks blank comment commentTurn lineComment lineTurn advances lacking closer
-blanks-near = search (byte-rules, closer-low) depth 12
+blanks-near = search (byte-rules, closer-heads) depth 12
 
 -- Blanks go on.
 pub blanks-goes : goes blanks ≡ true
@@ -148,7 +153,7 @@ ruleset blank-rules =
 
 part-near : {k : Mode} → L near part near k
 unfolding part advances
-part-near = search byte-rules
+part-near = search (byte-rules, closer-heads) depth 12
 
 -- A part that was looked over with the blanks behind it.
 part-again : {k : Mode} → L (pend (seq part blanks)) part (pend blanks) k
@@ -391,7 +396,7 @@ module _ (d : ℕ) (h : InnerFlow (within d)) where
 none-flow : InnerFlow noLevel
 unfolding noLevel elementTooDeep advances pass
 none-flow = record {
-  element = search flow-rules;
+  element = search (flow-rules, closer-heads);
   childBraces = f-refuse refl;
   valueBraces = f-refuse refl;
   spreadBraces = f-refuse refl;

@@ -1,18 +1,19 @@
 -- The levels. Chapter 'Inside braces', **Depth**.
 use Prim.Native.Nat.{ℕ, zero, suc}
-use Rattle.rules.specs.Rule.{Rule, refuse, when, marked, here, mark, _⨾_, _⇒_∣_}
+use Rattle.rules.specs.Rule.{Rule, refuse, when, whenChar, marked, here, mark, _⨾_, _⇒_∣_}
 use Rattle.jsx.specs.Refusal.{tooDeep}
 use Rattle.jsx.specs.Kind as Kind
-use Rattle.jsx.specs.Byte.{is, need, _or_}
+use Rattle.jsx.specs.Byte.{is, need}
 use Rattle.jsx.specs.Blank.{pass}
-use Rattle.jsx.specs.Name.{opensName}
+use Rattle.jsx.specs.Name.{opensPart}
 use Rattle.jsx.specs.Expression.{Inner, parenIn, bracketIn, callIn, prefixIn, choiceIn}
 use Rattle.jsx.specs.Braces.{childBracesIn, valueBracesIn, spread}
 use Rattle.jsx.specs.Element.{elementIn}
 
 -- D: "For `<` it is tested once a name or `>` is seen after it."
 unfoldable pub elementTooDeep : Rule
-elementTooDeep = marked (pass ⨾ (when (opensName or is ">") ⇒ refuse tooDeep mark ∣ need))
+elementTooDeep =
+    marked (pass ⨾ (when (is ">") ⇒ refuse tooDeep mark ∣ whenChar opensPart ⇒ refuse tooDeep mark ∣ need))
 
 -- No level is left. D: "65 is refusal 14 at its first byte".
 unfoldable pub noLevel : Inner

@@ -4,6 +4,8 @@ pub mod Kind
 pub mod Byte
 pub mod Utf8
 pub mod Blank
+pub mod Ranges
+pub mod Unicode
 pub mod Name
 pub mod Text
 pub mod Word

@@ -5,26 +5,32 @@ use mathlib.Core.Bool.{Bool, true, false}
 use mathlib.Core.List.{List, [], _∷_}
 use lib.Dec.{eqb}
 use Rattle.rules.specs.Forest.{Label, node, direct, inside}
-use Rattle.rules.specs.Rule.{Test, Rule, done, stop, step, refuse, when, after, many, wrap, said, marked, fromMark}
+use Rattle.rules.specs.Rule.{Test, Rule, done, stop, refuse, whenChar, after, many, wrap, said, marked, fromMark}
 use Rattle.rules.specs.Rule.{nodeOf, _⨾_, _⇒_∣_}
 use Rattle.rules.specs.Parse.{pick}
 use Rattle.jsx.specs.Refusal.{dashAfterDot}
 use Rattle.jsx.specs.Kind as Kind
-use Rattle.jsx.specs.Byte.{bytesOf, is, _‥_, _or_, letter, digit, need, expect}
+use Rattle.jsx.specs.Byte.{bytesOf, is, _‥_, _or_, letter, digit, character, need, expect}
 use Rattle.jsx.specs.Blank.{blanks}
+use Rattle.jsx.specs.Unicode.{idStart, idContinue}
 
--- D: "Name part: a letter, `_` or `$`, then letters, digits, `_`, `$`, `-`."
+-- Names in braces, by their bytes. D2: "Names in braces stay ASCII."
 unfoldable pub opensName : Test
 opensName = letter or is "_" or is "$"
 
 unfoldable pub inWord : Test
 inWord = opensName or digit
 
-unfoldable pub inName : Test
-inName = inWord or is "-"
+-- Names in tags, by their characters. D2: "Name parts take ID_Start, `$` and `_` first, then ID_Continue, `$`, U+200C,
+-- U+200D and `-`".
+unfoldable pub opensPart : Test
+opensPart = idStart or is "$" or is "_"
+
+unfoldable pub inPart : Test
+inPart = idContinue or is "$" or is "\u{200c}" or is "\u{200d}" or is "-"
 
 unfoldable pub part : Rule
-part = (when opensName ⇒ step ∣ need) ⨾ many (when inName ⇒ step ∣ stop)
+part = (whenChar opensPart ⇒ character ∣ need) ⨾ many (whenChar inPart ⇒ character ∣ stop)
 
 -- Whether a byte stands among some.
 unfoldable pub has : Char → List ℕ → Bool
@@ -49,9 +55,9 @@ unfoldable pub isThis : List ℕ → Bool
 isThis w = same w (bytesOf "this")
 
 -- D: "One-part names: with no dash and a first byte A-Z, `_` or `$`, a reference; else `this`, exactly, is This; else
--- an identifier."
+-- an identifier." D2: "A first character beyond ASCII makes a dashless one-part name a reference."
 unfoldable pub opensReference : Test
-opensReference = (code "A" ‥ code "Z") or is "_" or is "$"
+opensReference = (code "A" ‥ code "Z") or is "_" or is "$" or (0x80 ‥ 0xFF)
 
 unfoldable pub oneName : List ℕ → Label
 oneName w =

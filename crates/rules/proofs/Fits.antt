@@ -1,5 +1,5 @@
 -- How many nodes a reading makes: a byte brings one credit, a node costs one.
--- What there is may depend on whether the byte here meets the test h.
+-- What there is may depend on whether the character here meets the test h.
 use mathlib.Core.Path.{_≡_, refl, sym, subst, _∙_}
 use mathlib.Core.Bool.{Bool, true, false}
 use mathlib.Core.List.{List}
@@ -8,9 +8,9 @@ use native.Mathlib.Omega.{arith}
 use lib.ListN.{length}
 use lib.Dec.{ltb}
 use Rattle.rules.specs.Forest.{Label, node, content, Forest, nil, byte, group, _⋈_, width}
-use Rattle.rules.specs.Rule.{Place, Test, Verdict, Look, Rule, done, stop, step, refuse, when, look, after, seq}
-use Rattle.rules.specs.Rule.{many, wrap, said, marked, paired}
-use Rattle.rules.specs.Parse.{Answer, got, trouble, pick, byteAt, stands, repeat, parse, parseAll}
+use Rattle.rules.specs.Rule.{Place, Test, Verdict, Look, char, Rule, done, stop, step, refuse, when, look, after}
+use Rattle.rules.specs.Rule.{seq, many, wrap, said, marked, paired}
+use Rattle.rules.specs.Parse.{Answer, got, trouble, pick, byteAt, codeAt, stands, repeat, parse, parseAll}
 use Rattle.rules.specs.Record.{count}
 use Rattle.rules.proofs.Forests.{count-behind, width-behind}
 use Rattle.rules.proofs.Run.{wide-got, never}
@@ -19,7 +19,7 @@ use Rattle.rules.proofs.Got.{SaidOut, so, otherwise, stopped, said-read
 use Rattle.rules.proofs.Got.{wrap-read}
 use Rattle.rules.proofs.Ends.{Turn, last, goon, turn, top-got}
 
--- n credits where the byte here fails h, y where it meets it;
+-- n credits where the character here fails h, y where it meets it;
 -- after the rule gn and gy where it goes on, kn and ky where it stops.
 pub data Fits (h : Test) : (n y : ℕ) → Rule → (gn gy kn ky : ℕ) → Type 0 where
   f-weak : {n y n′ y′ gn gy gn′ gy′ kn ky kn′ ky′ : ℕ} {t : Rule}
@@ -47,13 +47,13 @@ pub data Fits (h : Test) : (n y : ℕ) → Rule → (gn gy kn ky : ℕ) → Type
   f-hungry : {n y gn gy kn ky : ℕ} {t u : Rule}
       → Fits h y y t gn gy kn ky
       → Fits h n n u gn gy kn ky
-      → Fits h n y (when h t u) gn gy kn ky
+      → Fits h n y (look (char h) t u) gn gy kn ky
   -- where f fails, h fails
   f-calm : {n y z gn gy kn ky : ℕ} {f : Test} {t u : Rule}
       → ((b : ℕ) → h b ≡ true → f b ≡ true)
       → Fits h n y t gn gy kn ky
       → Fits h n z u gn gy kn ky
-      → Fits h n y (when f t u) gn gy kn ky
+      → Fits h n y (look (char f) t u) gn gy kn ky
   f-look : {n y gn gy kn ky : ℕ} {w : Look} {t u : Rule}
       → Fits h n y t gn gy kn ky
       → Fits h n y u gn gy kn ky
@@ -87,7 +87,7 @@ pub record Spends (h : Test) (k : ℕ) (t : Rule) : Type 0 where
   pub left : ℕ
   pub fits : Fits h (k + left) (k + left) t left left left left
 
--- What there is before and after, by the test of the byte there.
+-- What there is before and after, by the test of the character there.
 pub record Pays (n y gn gy kn ky : ℕ) (b b′ a : Bool) (o : Forest) : Type 0 where
   pub enough : count o + pick b′ (pick a gy ky) (pick a gn kn) ≤ width o + pick b y n
 
@@ -220,35 +220,35 @@ calm false false x z i e f g = record { enough = g e .enough }
 module _ (h : Test) (s : List ℕ) (F : ℕ) where
   pays-moved : {n y gn gy kn ky : ℕ} {b a : Bool} {o : Forest} {q p : ℕ}
       → q ≡ p
-      → Pays n y gn gy kn ky b (h (byteAt s q)) a o
-      → Pays n y gn gy kn ky b (h (byteAt s p)) a o
+      → Pays n y gn gy kn ky b (h (codeAt s q)) a o
+      → Pays n y gn gy kn ky b (h (codeAt s p)) a o
   pays-moved {n} {y} {gn} {gy} {kn} {ky} {b} {a} {o} e x =
-      subst (λ (r : ℕ). Pays n y gn gy kn ky b (h (byteAt s r)) a o) e x
+      subst (λ (r : ℕ). Pays n y gn gy kn ky b (h (codeAt s r)) a o) e x
 
   pays-seq : {n y mn my gn gy kn ky : ℕ} {x : Answer} {f : ℕ → Answer} (at : ℕ) {a : Bool} {o : Forest} {p : ℕ}
       → SeqOut x f a o p
-      → ((b : Bool) (v : Forest) (q : ℕ) → x ≡ got b v q → Pays n y mn my kn ky (h (byteAt s at)) (h (byteAt s q)) b v)
-      → ((q : ℕ) (v : Forest) → f q ≡ got a v p → Pays mn my gn gy kn ky (h (byteAt s q)) (h (byteAt s p)) a v)
-      → Pays n y gn gy kn ky (h (byteAt s at)) (h (byteAt s p)) a o
+      → ((b : Bool) (v : Forest) (q : ℕ) → x ≡ got b v q → Pays n y mn my kn ky (h (codeAt s at)) (h (codeAt s q)) b v)
+      → ((q : ℕ) (v : Forest) → f q ≡ got a v p → Pays mn my gn gy kn ky (h (codeAt s q)) (h (codeAt s p)) a v)
+      → Pays n y gn gy kn ky (h (codeAt s at)) (h (codeAt s p)) a o
   pays-seq at (two o₁ p₁ o₂ x z w) hx hz = pays-join w (hx true o₁ p₁ x) (hz p₁ o₂ z)
   pays-seq at {o = o} {p} (one x e) hx hz = pays-is (sym e) refl (pays-off (hx false o p x))
 
   pays-said : {n y mn my gn gy kn ky : ℕ} {k : Forest → Bool} {x : Answer} {f g : ℕ → Answer}
       (at : ℕ) {a : Bool} {o : Forest} {p : ℕ}
       → SaidOut k x f g a o p
-      → ((b : Bool) (v : Forest) (q : ℕ) → x ≡ got b v q → Pays n y mn my kn ky (h (byteAt s at)) (h (byteAt s q)) b v)
-      → ((q : ℕ) (v : Forest) → f q ≡ got a v p → Pays mn my gn gy kn ky (h (byteAt s q)) (h (byteAt s p)) a v)
-      → ((q : ℕ) (v : Forest) → g q ≡ got a v p → Pays mn my gn gy kn ky (h (byteAt s q)) (h (byteAt s p)) a v)
-      → Pays n y gn gy kn ky (h (byteAt s at)) (h (byteAt s p)) a o
+      → ((b : Bool) (v : Forest) (q : ℕ) → x ≡ got b v q → Pays n y mn my kn ky (h (codeAt s at)) (h (codeAt s q)) b v)
+      → ((q : ℕ) (v : Forest) → f q ≡ got a v p → Pays mn my gn gy kn ky (h (codeAt s q)) (h (codeAt s p)) a v)
+      → ((q : ℕ) (v : Forest) → g q ≡ got a v p → Pays mn my gn gy kn ky (h (codeAt s q)) (h (codeAt s p)) a v)
+      → Pays n y gn gy kn ky (h (codeAt s at)) (h (codeAt s p)) a o
   pays-said at (so o₁ p₁ o₂ x c z w) hx hf hg = pays-join w (hx true o₁ p₁ x) (hf p₁ o₂ z)
   pays-said at (otherwise o₁ p₁ o₂ x c z w) hx hf hg = pays-join w (hx true o₁ p₁ x) (hg p₁ o₂ z)
   pays-said at {o = o} {p} (stopped x e) hx hf hg = pays-is (sym e) refl (pays-off (hx false o p x))
 
   pays-loop : {n y kn ky jn jy : ℕ} (body : ℕ → Answer)
       → ((at : ℕ) (b : Bool) (v : Forest) (q : ℕ) → body at ≡ got b v q
-      → Pays n y n y kn ky (h (byteAt s at)) (h (byteAt s q)) b v)
+      → Pays n y n y kn ky (h (codeAt s at)) (h (codeAt s q)) b v)
       → (f at : ℕ) {a : Bool} {o : Forest} {p : ℕ} → repeat body f at ≡ got a o p
-      → Pays n y kn ky jn jy (h (byteAt s at)) (h (byteAt s p)) a o
+      → Pays n y kn ky jn jy (h (codeAt s at)) (h (codeAt s p)) a o
   unfolding repeat
   pays-loop body hb zero at e = trouble-got e
   pays-loop {n} {y} {kn} {ky} {jn} {jy} body hb (suc f) at {a} {o} {p} e =
@@ -256,52 +256,52 @@ module _ (h : Test) (s : List ℕ) (F : ℕ) where
     where
       go : Turn body f at o p
           → ((q : ℕ) (v : Forest) → repeat body f q ≡ got true v p
-          → Pays n y kn ky jn jy (h (byteAt s q)) (h (byteAt s p)) true v)
-          → Pays n y kn ky jn jy (h (byteAt s at)) (h (byteAt s p)) true o
+          → Pays n y kn ky jn jy (h (codeAt s q)) (h (codeAt s p)) true v)
+          → Pays n y kn ky jn jy (h (codeAt s at)) (h (codeAt s p)) true o
       go (last r) ih = pays-last (hb at false o p r)
       go (goon u q v r l rest w) ih = pays-join w (hb at true u q r) (ih q v rest)
 
   -- A loop whose first turn, if any is read, leaves more or less than it was given.
   pub pays-first : {n y m z kn ky jn jy : ℕ} (body : ℕ → Answer) (f at : ℕ) {a : Bool} {o : Forest} {p : ℕ}
       → ((b : Bool) (v : Forest) (q : ℕ) → body at ≡ got b v q
-      → Pays n y m z kn ky (h (byteAt s at)) (h (byteAt s q)) b v)
+      → Pays n y m z kn ky (h (codeAt s at)) (h (codeAt s q)) b v)
       → ((at : ℕ) (b : Bool) (v : Forest) (q : ℕ) → body at ≡ got b v q
-      → Pays m z m z kn ky (h (byteAt s at)) (h (byteAt s q)) b v)
+      → Pays m z m z kn ky (h (codeAt s at)) (h (codeAt s q)) b v)
       → repeat body f at ≡ got a o p
-      → Pays n y kn ky jn jy (h (byteAt s at)) (h (byteAt s p)) a o
+      → Pays n y kn ky jn jy (h (codeAt s at)) (h (codeAt s p)) a o
   unfolding repeat
   pays-first body zero at hf hb e = trouble-got e
   pays-first {n} {y} {kn = kn} {ky} {jn} {jy} body (suc f) at {a} {o} {p} hf hb e =
       let t = turn body f at e in pays-is (sym (t .0)) refl (go (t .1))
     where
-      go : Turn body f at o p → Pays n y kn ky jn jy (h (byteAt s at)) (h (byteAt s p)) true o
+      go : Turn body f at o p → Pays n y kn ky jn jy (h (codeAt s at)) (h (codeAt s p)) true o
       go (last r) = pays-last (hf false o p r)
       go (goon u q v r l rest w) = pays-join w (hf true u q r) (pays-loop body hb f q rest)
 
   pays-step : {i kn ky : ℕ} (e at : ℕ) {a : Bool} {o : Forest} {p : ℕ}
       → parse s F step e at ≡ got a o p
-      → Pays i i (suc i) (suc i) kn ky (h (byteAt s at)) (h (byteAt s p)) a o
+      → Pays i i (suc i) (suc i) kn ky (h (codeAt s at)) (h (codeAt s p)) a o
   unfolding parse
   pays-step {i} {kn} {ky} e at {a} {o} {p} k = go (ltb at (length s)) k
     where
       go : (c : Bool)
           → pick c (got true (byte (byteAt s at) nil) (at + 1)) (trouble 4 at at 0 0) ≡ got a o p
-          → Pays i i (suc i) (suc i) kn ky (h (byteAt s at)) (h (byteAt s p)) a o
+          → Pays i i (suc i) (suc i) kn ky (h (codeAt s at)) (h (codeAt s p)) a o
       go true k =
           let x = got-same k in
-          pays-moved (x .2) (pays-is (x .0) (x .1) (pays-byte (h (byteAt s at)) (h (byteAt s (at + 1)))))
+          pays-moved (x .2) (pays-is (x .0) (x .1) (pays-byte (h (codeAt s at)) (h (codeAt s (at + 1)))))
       go false k = trouble-got k
 
   pays-pair : {n y mn my cn cy gn gy kn ky d : ℕ} {t c u : Rule} {v : Forest → Forest → Verdict} {e at : ℕ} {a : Bool}
       {o : Forest} {p : ℕ}
       → PairOut s F d t c u v e at a o p
       → ((b : Bool) (w : Forest) (q : ℕ) → parse s F t e at ≡ got b w q
-      → Pays n y mn my gn gy (h (byteAt s at)) (h (byteAt s q)) b w)
+      → Pays n y mn my gn gy (h (codeAt s at)) (h (codeAt s q)) b w)
       → ((q : ℕ) (b : Bool) (w : Forest) (z : ℕ) → parse s F c e q ≡ got b w z
-      → Pays mn my cn cy cn cy (h (byteAt s q)) (h (byteAt s z)) b w)
+      → Pays mn my cn cy cn cy (h (codeAt s q)) (h (codeAt s z)) b w)
       → ((q : ℕ) (b : Bool) (w : Forest) → parse s F u e q ≡ got b w p
-      → Pays cn cy gn gy gn gy (h (byteAt s q)) (h (byteAt s p)) b w)
-      → Pays n y gn gy kn ky (h (byteAt s at)) (h (byteAt s p)) a o
+      → Pays cn cy gn gy gn gy (h (codeAt s q)) (h (codeAt s p)) b w)
+      → Pays n y gn gy kn ky (h (codeAt s at)) (h (codeAt s p)) a o
   pays-pair {o = o} {p} (lone x e) ht hc hu = pays-is (sym e) refl (pays-last (ht false o p x))
   pays-pair {gn = gn} {gy} (full o₁ p₁ b w p₂ b₂ r x z k nm q e) ht hc hu =
       pays-is (sym e) refl (pays-join q (ht true o₁ p₁ x)
@@ -311,27 +311,27 @@ module _ (h : Test) (s : List ℕ) (F : ℕ) where
   pub pays : {n y gn gy kn ky : ℕ} {t : Rule}
       → Fits h n y t gn gy kn ky
       → (e at : ℕ) (a : Bool) (o : Forest) (p : ℕ) → parse s F t e at ≡ got a o p
-      → Pays n y gn gy kn ky (h (byteAt s at)) (h (byteAt s p)) a o
+      → Pays n y gn gy kn ky (h (codeAt s at)) (h (codeAt s p)) a o
   unfolding parse
   pays (f-weak w₁ w₂ w₃ w₄ w₅ w₆ x) e at a o p k =
-      pays-weak (h (byteAt s at)) (h (byteAt s p)) a w₁ w₂ w₃ w₄ w₅ w₆ (pays x e at a o p k)
-  pays (f-down j x) e at a o p k = pays-down j (h (byteAt s at)) (h (byteAt s p)) a (pays x e at a o p k)
+      pays-weak (h (codeAt s at)) (h (codeAt s p)) a w₁ w₂ w₃ w₄ w₅ w₆ (pays x e at a o p k)
+  pays (f-down j x) e at a o p k = pays-down j (h (codeAt s at)) (h (codeAt s p)) a (pays x e at a o p k)
   pays f-done e at a o p k =
       let x = got-same k in
-      pays-moved (x .2) (pays-is (x .0) (x .1) (pays-done (h (byteAt s at))))
+      pays-moved (x .2) (pays-is (x .0) (x .1) (pays-done (h (codeAt s at))))
   pays f-stop e at a o p k =
       let x = got-same k in
-      pays-moved (x .2) (pays-is (x .0) (x .1) (pays-stop (h (byteAt s at))))
+      pays-moved (x .2) (pays-is (x .0) (x .1) (pays-stop (h (codeAt s at))))
   pays f-step e at a o p k = pays-step e at k
   pays (f-refuse {m = m} {w}) e at a o p k = refusal-got m w e at k
   pays (f-when {f = f} {t} {u} x z) e at a o p k =
       pick-case (f (byteAt s at)) (parse s F t e at) (parse s F u e at) k (λ q. pays x e at a o p q)
       (λ q. pays z e at a o p q)
   pays (f-hungry {t = t} {u} x z) e at a o p k =
-      hungry (h (byteAt s at)) (parse s F t e at) (parse s F u e at) k (λ q. pays x e at a o p q)
+      hungry (h (codeAt s at)) (parse s F t e at) (parse s F u e at) k (λ q. pays x e at a o p q)
       (λ q. pays z e at a o p q)
   pays (f-calm {f = f} {t} {u} i x z) e at a o p k =
-      calm (h (byteAt s at)) (f (byteAt s at)) (parse s F t e at) (parse s F u e at) (i (byteAt s at)) k
+      calm (h (codeAt s at)) (f (codeAt s at)) (parse s F t e at) (parse s F u e at) (i (codeAt s at)) k
       (λ q. pays x e at a o p q) (λ q. pays z e at a o p q)
   pays (f-look {w = w} {t} {u} x z) e at a o p k =
       pick-case (stands s w at) (parse s F t e at) (parse s F u e at) k (λ q. pays x e at a o p q)
@@ -345,7 +345,7 @@ module _ (h : Test) (s : List ℕ) (F : ℕ) where
   pays (f-many {t = t} x) e at a o p k = pays-loop (parse s F t e) (λ q b v r w. pays x e q b v r w) F at k
   pays (f-wrap {n} {y} {gn} {gy} {kn} {ky} {l} {t} x) e at a o p k =
       let w = wrap-read s F l t e at k in
-      pays-is refl (sym (w .2)) (pays-group (h (byteAt s at)) (l (w .0)) (pays x e at a (w .0) p (w .1)))
+      pays-is refl (sym (w .2)) (pays-group (h (codeAt s at)) (l (w .0)) (pays x e at a (w .0) p (w .1)))
   pays (f-said {f = f} {r} {t} {u} x z w) e at a o p k =
       pays-said at (said-read s F f r t u e at k) (λ b v q j. pays x e at b v q j) (λ q v j. pays z e q a v p j)
       (λ q v j. pays w e q a v p j)
@@ -360,7 +360,7 @@ module _ (h : Test) (s : List ℕ) (F : ℕ) where
   thrifty {k} x e at {a} {o} {p} r =
       let w = pays (x .fits) e at a o p r .enough in
       let i = x .left in
-      omega (arith, w, pick-same (h (byteAt s at)) (k + i), pick-same a i, pick-same (h (byteAt s p)) (pick a i i))
+      omega (arith, w, pick-same (h (codeAt s at)) (k + i), pick-same a i, pick-same (h (codeAt s p)) (pick a i i))
 
   -- So it ends no more than k places before as many as it has made.
   pub thrifty-far : {k : ℕ} {t : Rule} → Spends h k t → (e at : ℕ) {a : Bool} {o : Forest} {p : ℕ}

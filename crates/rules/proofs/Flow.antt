@@ -10,7 +10,7 @@ use Rattle.rules.specs.Rule.{Place, Test, Verdict, fine, differ, Look, b
 use Rattle.rules.specs.Rule.{refuse, when, look, after, seq, many, wrap, said, marked, paired}
 use Rattle.rules.specs.Parse.{got, pick, parse}
 use Rattle.rules.proofs.Run.{goes, never}
-use Rattle.rules.proofs.Agree.{Without, Lacks}
+use Rattle.rules.proofs.Agree.{Without, heads, Lacks}
 use Rattle.rules.proofs.Moves.{moves}
 use Rattle.rules.proofs.Spots.{Spot, fill}
 
@@ -89,10 +89,10 @@ lacking-without q (b ∷ w) h = go (q b) refl h (λ k. lacking-without q w k)
     go false e k ih = (e, ih k)
 
 -- What is asked does not go on behind a byte that passes the test: by computing, of some bytes; of a character, since
--- all that pass are characters of their own.
+-- none that passes goes on with one.
 abbrev pub Short : Test → Look → Type 0
 Short q (bytes w) = lacking q w ≡ true
-Short q (char f) = (b : ℕ) → q b ≡ true → ltb b 0x80 ≡ true
+Short q (char f) = (b : ℕ) → q b ≡ true → heads b ≡ true
 
 -- It is what the law of locality asks for.
 pub short-lacks : (q : Test) (w : Look) → Short q w → Lacks q w

@@ -6,6 +6,7 @@ use mathlib.Core.List.{List}
 use Prim.Native.Nat.{ℕ, zero, suc, _+_, _≤_, _<_}
 use native.Mathlib.Omega.{arith}
 use native.Mathlib.Nat.{le-refl}
+use lib.Dec.{ltb}
 use lib.ListN.{length}
 use Rattle.rules.specs.Forest.{Label, node, content, Forest, nil, group, _⋈_, width}
 use Rattle.rules.specs.Rule.{Test, Verdict, fine, Rule, step, seq, many, wrap, said, paired}
@@ -91,7 +92,7 @@ module _ (C : ℕ → Rule) (Q : Test) (R : Label → Forest → Type 0) (s s′
     (ante : (n : ℕ) → n < p → byteAt s n ≡ byteAt s′ n)
     (post : (n n′ : ℕ) → n + K′ ≡ n′ + K → p + width c₀ ≤ n → byteAt s n ≡ byteAt s′ n′)
     (lengths : length s + K′ ≡ length s′ + K) (shift : p + width c₀ + K′ ≡ B + K) (pB : p ≤ B)
-    (closed : (j : ℕ) → j + 1 ≡ p → Q (byteAt s j) ≡ true)
+    (closed : (j : ℕ) → j + 1 ≡ p → Q (byteAt s j) ≡ true) (low : (b : ℕ) → Q b ≡ true → ltb b 0x80 ≡ true)
     (reads : (m : ℕ) → parsed s′ (C d) m p ≡ got true c₁ B) where
   abbrev old : Rule → ℕ → ℕ → Answer
   old t e at = parsed s t e at
@@ -110,7 +111,7 @@ module _ (C : ℕ → Rule) (Q : Test) (R : Label → Forest → Type 0) (s s′
     where
       res : (n : ℕ) × (new t e′ at ≡ got a o n) × (p₁ + 0 ≡ n + 0)
       res =
-          local-got (Lacks Q) s s′ 0 0 at p (suc p) (omega arith) (before s s′ p ante (omega arith) pl′ Q closed at)
+          local-got (Lacks Q) s s′ 0 0 at p (suc p) (omega arith) (before s s′ p ante (omega arith) pl′ Q closed (λ h. low) at)
           (suc (length s)) (suc (length s′)) t e e′ at at (omega arith) refl (le-refl _) lk h (omega arith)
 
   -- Behind the content.
@@ -463,7 +464,7 @@ module _ (C : ℕ → Rule) (Q : Test) (R : Label → Forest → Type 0) (s s′
   refill (f-look {w = w} {t} {u} sn pw x y) e e′ at a o q le l h = λ ω sp.
       let B = there (f-look {w = w} sn pw x y) e at a o q h l ω sp in
       fork-refill (stands s w at) (stands s′ w at) t u e e′ at a o q ω
-      (before s s′ p ante (omega arith) pl′ Q closed at at at refl (le-refl _) (B .1) .2 w (short-lacks Q w pw)) h
+      (before s s′ p ante (omega arith) pl′ Q closed (λ h. low) at at at refl (le-refl _) (B .1) .2 w (short-lacks Q w pw)) h
       (λ z. refill x e e′ at a o q le l z ω sp) (λ z. refill y e e′ at a o q le l z ω sp)
   refill (f-after {f = f} {r} {t} {u} gr fr x y) e e′ at a o q le l h = λ ω sp.
       let B = there (f-after {f = f} gr fr x y) e at a o q h l ω sp in
