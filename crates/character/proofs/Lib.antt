@@ -8,3 +8,5 @@ pub mod WidthSteps
 pub mod Read
 -- What calls ask: one set.
 pub mod Asked
+-- The same bytes elsewhere are the same character.
+pub mod Again

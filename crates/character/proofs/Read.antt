@@ -44,7 +44,7 @@ bits-inside s (suc n) c at k i =
 
 module _ (s : List ℕ) (p : ℕ) (k : codeAt s p ≡ noChar → ⊥) where
   -- What holds of each width for the first bytes that say it holds of the width of the character here.
-  by-first : (P : ℕ → Type 0)
+  pub by-first : (P : ℕ → Type 0)
       → (byteAt s p < 0x80 → P 1)
       → (0xC0 ≤ byteAt s p → byteAt s p < 0xE0 → p + 2 ≤ length s → P 2)
       → (0xE0 ≤ byteAt s p → byteAt s p < 0xF0 → p + 3 ≤ length s → P 3)
@@ -97,69 +97,54 @@ module _ (s : List ℕ) (p : ℕ) (k : codeAt s p ≡ noChar → ⊥) where
 
 -- ---- what the rule reads
 
--- Its bytes, by how many there are.
-abbrev two : Rule
-two = step ⨾ step
+-- Its bytes, one more than n.
+abbrev steps : ℕ → Rule
+steps zero = step
+steps (suc n) = step ⨾ steps n
 
-abbrev three : Rule
-three = step ⨾ two
-
-abbrev four : Rule
-four = step ⨾ three
+-- What they are read as.
+unfoldable pub spelled : List ℕ → (p n : ℕ) → Forest
+spelled s p zero = byte (byteAt s p) nil
+spelled s p (suc n) = byte (byteAt s p) nil ⋈ spelled s (p + 1) n
 
 -- The tests behind the second, and behind the first.
 abbrev longest : Rule
-longest = when (0xF0 ‥ 0xF7) four step
+longest = when (0xF0 ‥ 0xF7) (steps 3) step
 
 abbrev longer : Rule
-longer = when (0xE0 ‥ 0xEF) three longest
+longer = when (0xE0 ‥ 0xEF) (steps 2) longest
 
 module _ (s : List ℕ) (F e : ℕ) where
-  -- A byte in front of what a rule reads.
-  front : (u : Rule) (p : ℕ) {o : Forest} {q : ℕ} → p < length s → parse s F u e (p + 1) ≡ got true o q
-      → parse s F (step ⨾ u) e p ≡ got true (byte (byteAt s p) nil ⋈ o) q
-  front u p i h =
-      Lex.seq-is s F e p step u (Lex.step-is s F e p i)
-      ∙ ap (behind (byte (byteAt s p) nil)) h
+  steps-read : (n p : ℕ) → p + suc n ≤ length s → parse s F (steps n) e p ≡ got true (spelled s p n) (p + suc n)
+  unfolding spelled
+  steps-read zero p i = Lex.step-is s F e p (omega arith)
+  steps-read (suc n) p i =
+      let k : p + 1 + suc n ≡ p + suc (suc n) = omega arith in
+      Lex.seq-is s F e p step (steps n) (Lex.step-is s F e p (omega arith))
+      ∙ ap (behind (byte (byteAt s p) nil)) (steps-read n (p + 1) (omega arith))
+      ∙ ap (got true (byte (byteAt s p) nil ⋈ spelled s (p + 1) n)) k
 
-  reads-two : (p : ℕ) → p + 2 ≤ length s
-      → parse s F two e p ≡ got true (byte (byteAt s p) nil ⋈ byte (byteAt s (p + 1)) nil) (p + 2)
-  reads-two p i =
-      let k : p + 1 + 1 ≡ p + 2 = omega arith in
-      rw (← k) (front step p (omega arith) (Lex.step-is s F e (p + 1) (omega arith)))
-
-  reads-three : (p : ℕ) → p + 3 ≤ length s
-      → parse s F three e p ≡ got true (byte (byteAt s p) nil ⋈ outOf (parse s F two e (p + 1))) (p + 3)
-  reads-three p i =
-      let k : p + 1 + 2 ≡ p + 3 = omega arith in
-      rw (← k) (front two p (omega arith) (Lex.known _ (reads-two (p + 1) (omega arith))))
-
-  reads-four : (p : ℕ) → p + 4 ≤ length s
-      → parse s F four e p ≡ got true (byte (byteAt s p) nil ⋈ outOf (parse s F three e (p + 1))) (p + 4)
-  reads-four p i =
-      let k : p + 1 + 3 ≡ p + 4 = omega arith in
-      rw (← k) (front three p (omega arith) (Lex.known _ (reads-three (p + 1) (omega arith))))
+  -- It is read whole: the bytes that it is spelled with.
+  pub character-spelled : (p : ℕ) → (codeAt s p ≡ noChar → ⊥)
+      → parse s F character e p ≡ got true (spelled s p (widthOf (byteAt s p) - 1)) (p + widthOf (byteAt s p))
+  character-spelled p k =
+      let b = byteAt s p in
+      by-first s p k (λ n. parse s F character e p ≡ got true (spelled s p (n - 1)) (p + n))
+      (λ h. Lex.when-no s F e p (0xC0 ‥ 0xDF) (steps 1) longer (under 0xC0 0xDF b (omega arith))
+      ∙ Lex.when-no s F e p (0xE0 ‥ 0xEF) (steps 2) longest (under 0xE0 0xEF b (omega arith))
+      ∙ Lex.when-no s F e p (0xF0 ‥ 0xF7) (steps 3) step (under 0xF0 0xF7 b (omega arith))
+      ∙ steps-read 0 p (let i = Lex.before-end s p b refl (omega arith) in omega arith))
+      (λ h h₂ i. Lex.when-yes s F e p (0xC0 ‥ 0xDF) (steps 1) longer (in-range 0xC0 0xDF b h (omega arith))
+      ∙ steps-read 1 p i)
+      (λ h h₂ i. Lex.when-no s F e p (0xC0 ‥ 0xDF) (steps 1) longer (over 0xC0 0xDF b (omega arith))
+      ∙ Lex.when-yes s F e p (0xE0 ‥ 0xEF) (steps 2) longest (in-range 0xE0 0xEF b h (omega arith))
+      ∙ steps-read 2 p i)
+      (λ h h₂ i. Lex.when-no s F e p (0xC0 ‥ 0xDF) (steps 1) longer (over 0xC0 0xDF b (omega arith))
+      ∙ Lex.when-no s F e p (0xE0 ‥ 0xEF) (steps 2) longest (over 0xE0 0xEF b (omega arith))
+      ∙ Lex.when-yes s F e p (0xF0 ‥ 0xF7) (steps 3) step (in-range 0xF0 0xF7 b h (omega arith))
+      ∙ steps-read 3 p i)
 
   -- It is read whole.
   pub character-read : (p : ℕ) → (codeAt s p ≡ noChar → ⊥)
       → parse s F character e p ≡ got true (outOf (parse s F character e p)) (p + widthOf (byteAt s p))
-  character-read p k =
-      let b = byteAt s p in
-      by-first s p k (λ n. parse s F character e p ≡ got true (outOf (parse s F character e p)) (p + n))
-      (λ h. Lex.known _
-      (Lex.when-no s F e p (0xC0 ‥ 0xDF) two longer (under 0xC0 0xDF b (omega arith))
-      ∙ Lex.when-no s F e p (0xE0 ‥ 0xEF) three longest (under 0xE0 0xEF b (omega arith))
-      ∙ Lex.when-no s F e p (0xF0 ‥ 0xF7) four step (under 0xF0 0xF7 b (omega arith))
-      ∙ Lex.step-is s F e p (Lex.before-end s p b refl (omega arith))))
-      (λ h h₂ i. Lex.known _
-      (Lex.when-yes s F e p (0xC0 ‥ 0xDF) two longer (in-range 0xC0 0xDF b h (omega arith))
-      ∙ reads-two p i))
-      (λ h h₂ i. Lex.known _
-      (Lex.when-no s F e p (0xC0 ‥ 0xDF) two longer (over 0xC0 0xDF b (omega arith))
-      ∙ Lex.when-yes s F e p (0xE0 ‥ 0xEF) three longest (in-range 0xE0 0xEF b h (omega arith))
-      ∙ reads-three p i))
-      (λ h h₂ i. Lex.known _
-      (Lex.when-no s F e p (0xC0 ‥ 0xDF) two longer (over 0xC0 0xDF b (omega arith))
-      ∙ Lex.when-no s F e p (0xE0 ‥ 0xEF) three longest (over 0xE0 0xEF b (omega arith))
-      ∙ Lex.when-yes s F e p (0xF0 ‥ 0xF7) four step (in-range 0xF0 0xF7 b h (omega arith))
-      ∙ reads-four p i))
+  character-read p k = Lex.known _ (character-spelled p k)

@@ -1,4 +1,4 @@
--- A name's part, and the same bytes elsewhere: the same part.
+-- The same bytes, one by one.
 pub mod SamePart
 -- A closing tag that repeats a name: what its rule reads.
 pub mod Repeated

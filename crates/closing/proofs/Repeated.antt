@@ -6,11 +6,11 @@ use Prim.Native.Char.{Char, code}
 use Prim.Native.Nat.{ℕ, suc, _+_, _-_, _≤_, _<_}
 use native.Mathlib.Omega.{arith}
 use lib.ListN.{length}
-use lib.Dec.{eqb}
-use borrow.Author.Tests.{eq-eqb, ne-eqb}
+use lib.Dec.{eqb, ltb}
+use borrow.Author.Tests.{eq-eqb, ne-eqb, ltb-true}
 use Rattle.rules.specs.Forest.{Label, node, Forest, nil, byte, group, _⋈_, width, direct, inside}
 use Rattle.rules.specs.Rule.{Test, Verdict, fine, step, many, _⨾_}
-use Rattle.rules.specs.Parse.{Answer, got, trouble, pick, andThen, behind, byteAt, judged, readAt}
+use Rattle.rules.specs.Parse.{Answer, got, trouble, pick, andThen, behind, byteAt, codeAt, judged, readAt}
 use Rattle.rules.specs.Record.{count}
 use Rattle.rules.proofs.Forests.{count-behind}
 use Rattle.rules.proofs.Got.{trouble-got, got-same, false-true}
@@ -20,61 +20,74 @@ use Rattle.rules.proofs.Turns.{many-last}
 use Rattle.jsx.specs.Kind as Kind
 use Rattle.jsx.specs.Byte.{is, _‥_, letter, digit, need, expect}
 use Rattle.jsx.specs.Blank.{blank, blanks}
-use Rattle.jsx.specs.Name.{same, opensName, inName, inWord, isThis, oneName, objectName, dashed, part, otherPart}
-use Rattle.jsx.specs.Name.{dotted, elementName}
+use Rattle.jsx.specs.Name.{same, opensName, inWord, opensPart, inPart, isThis, oneName, objectName, dashed, part}
+use Rattle.jsx.specs.Name.{otherPart, dotted, elementName}
 use Rattle.jsx.specs.Tag.{closeName, closeTag}
 use Rattle.jsx.specs.Closing.{furtherOn, nameIn, named, partsOf, allSame, sameName, compared}
+use Rattle.jsx.proofs.Unicode.{opens-no-blank}
 use Rattle.jsx.proofs.Again.{nodeAround, onePartOf, otherPartOf, objectOf, elementName-once, closeTag-again}
 use Rattle.lex.specs.Contract.{outOf}
 use Rattle.lex.proofs.Laws as Lex
 use Rattle.blank.proofs.Laws.{token-other, blank-other, blank-slash}
-use Rattle.word.proofs.Ascii.{opens-token}
+use Rattle.character.proofs.CodeSteps.{code-alone}
+use Rattle.word.specs.Here.{nameByte}
+use Rattle.word.proofs.PartTests.{opens-ascii, in-ascii}
+use Rattle.word.proofs.Again.{part-again, part-opens}
 use Rattle.same.specs.Contract.{ReadsAt, Named}
 use Rattle.same.proofs.Forms.{nameAt, kindOf, one-low, begins, blanks-behind}
 use Rattle.closing.specs.Close.{Closes, nameFrom, closing, nameCount}
-use Rattle.closing.proofs.SamePart.{part-again, part-opens}
+use Rattle.closing.proofs.SamePart.{same-byte}
 
--- ---- a byte that opens a name, and `>`, are no blank
+-- ---- a character that opens a part, and `>`, are no blank
 
--- A byte that passes a test is none that fails it.
-apart : (f : Test) (b k : ℕ) → f k ≡ false → f b ≡ true → eqb b k ≡ false
-apart f b k e h = ne-eqb b k (λ i. false-true (ap f i ∙ e) h)
+module _ (s : List ℕ) (p : ℕ) (h : opensPart (codeAt s p) ≡ true) where
+  -- A byte of ASCII that opens no name does not stand here.
+  opens-not : (k : ℕ) → ltb k 0x80 ≡ true → opensName k ≡ false → eqb (byteAt s p) k ≡ false
+  opens-not k l n =
+      ne-eqb (byteAt s p) k (λ e.
+      let i = ltb-true k 0x80 l in
+      let c = code-alone s p {b = k} (sym e) i in
+      false-true (ap opensPart (sym c) ∙ opens-ascii k i ∙ n) h)
 
-module _ (b : ℕ) (h : opensName b ≡ true) where
-  opens-no-slash : is "/" b ≡ false
+  opens-no-slash : is "/" (byteAt s p) ≡ false
   unfolding opensName letter
-  opens-no-slash = apart opensName b (code "/") refl h
+  opens-no-slash = opens-not (code "/") refl refl
 
-  opens-no-star : is "*" b ≡ false
+  opens-no-star : is "*" (byteAt s p) ≡ false
   unfolding opensName letter
-  opens-no-star = apart opensName b (code "*") refl h
+  opens-no-star = opens-not (code "*") refl refl
 
-  opens-no-end : is ">" b ≡ false
+  opens-no-end : is ">" (byteAt s p) ≡ false
   unfolding opensName letter
-  opens-no-end = apart opensName b (code ">") refl h
+  opens-no-end = opens-not (code ">") refl refl
 
-no-name-shut : (b : ℕ) → b ≡ code ">" → inName b ≡ false
-unfolding inName inWord opensName letter digit
-no-name-shut b h = rw h
+no-part-shut : (s : List ℕ) (p : ℕ) → byteAt s p ≡ code ">" → inPart (codeAt s p) ≡ false
+unfolding nameByte inWord opensName letter digit
+no-part-shut s p h =
+    let l : code ">" < 0x80 = omega arith in
+    ap inPart (sym (code-alone s p {b = code ">"} (sym h) l)) ∙ in-ascii (code ">") l
 
 module _ (s : List ℕ) (p : ℕ) where
   none-here : (0x21 ‥ 0x7F) (byteAt s p) ≡ true → is "/" (byteAt s p) ≡ false → readAt s blanks p ≡ got true nil p
   unfolding blanks
   none-here t u = many-last s blank 0 p (blank-other s (suc (length s)) 0 p (token-other s p t) u)
 
-  none-at-name : opensName (byteAt s p) ≡ true → readAt s blanks p ≡ got true nil p
-  none-at-name h = none-here (opens-token (byteAt s p) h) (opens-no-slash (byteAt s p) h)
+  none-at-name : opensPart (codeAt s p) ≡ true → readAt s blanks p ≡ got true nil p
+  unfolding blanks
+  none-at-name h =
+      many-last s blank 0 p
+      (blank-other s (suc (length s)) 0 p (opens-no-blank (codeAt s p) h) (opens-no-slash s p h))
 
   -- No blank stands at a `>`.
   pub none-at-shut : byteAt s p ≡ code ">" → readAt s blanks p ≡ got true nil p
   none-at-shut h = none-here (rw h) (rw h)
 
-  none-at-slash : byteAt s p ≡ code "/" → opensName (byteAt s (p + 1)) ≡ true → readAt s blanks p ≡ got true nil p
+  none-at-slash : byteAt s p ≡ code "/" → opensPart (codeAt s (p + 1)) ≡ true → readAt s blanks p ≡ got true nil p
   unfolding blanks
   none-at-slash h k =
       many-last s blank 0 p
       (blank-slash s (suc (length s)) 0 p (token-other s p (rw h)) (eq-eqb (byteAt s p) (code "/") h)
-      (opens-no-star (byteAt s (p + 1)) k) (opens-no-slash (byteAt s (p + 1)) k))
+      (opens-no-star s (p + 1) k) (opens-no-slash s (p + 1) k))
 
   -- A byte that is asked for and is there.
   pub expect-is : (c : Char) → is c (byteAt s p) ≡ true → p < length s
@@ -101,9 +114,11 @@ module _ (s : List ℕ) (c a e n : ℕ) {w : Forest} (h : readAt s part a ≡ go
   part-there =
       let j : c + 2 ≡ c + 1 + 1 = omega arith in
       let i = v .inside in
-      part-again s a e h (c + 1 + 1) n k (rw j at (v .name)) (no-name-shut _ shut) (omega arith)
+      let m = rw j at (v .name) in
+      part-again s a e h (c + 1 + 1) (λ i l. same-byte s n a (c + 1 + 1) i m (omega arith)) (c + 1 + 1 + n) (omega arith)
+      (no-part-shut s (c + 1 + 1 + n) shut) (omega arith)
 
-  opens : opensName (byteAt s (c + 1 + 1)) ≡ true
+  opens : opensPart (codeAt s (c + 1 + 1)) ≡ true
   opens = part-opens s (c + 1 + 1) (c + 1 + 1 + n) part-there
 
   -- So does the name.
@@ -124,7 +139,7 @@ module _ (s : List ℕ) (c a e n : ℕ) {w : Forest} (h : readAt s part a ≡ go
       (Lex.seq-is s F 0 (c + 1 + 1) blanks _ (none-at-name s (c + 1 + 1) opens)
       ∙ ap (behind nil)
       (Lex.seq-is s F 0 (c + 1 + 1) closeName _
-      (Lex.when-no s F 0 (c + 1 + 1) (is ">") _ elementName (opens-no-end _ opens) ∙ name-there)
+      (Lex.when-no s F 0 (c + 1 + 1) (is ">") _ elementName (opens-no-end s (c + 1 + 1) opens) ∙ name-there)
       ∙ ap (behind (onePartOf w))
       (Lex.seq-is s F 0 (c + 1 + 1 + n) blanks _ (none-at-shut s (c + 1 + 1 + n) shut)
       ∙ ap (behind nil) (expect-is s (c + 1 + 1 + n) ">" (eq-eqb _ (code ">") shut) (omega arith)))))

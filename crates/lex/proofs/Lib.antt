@@ -2,6 +2,8 @@
 pub mod Laws
 -- A byte and a range of bytes.
 pub mod Ranges
+-- Tests of a byte: ranges, and one test or another.
+pub mod TestSteps
 -- A loop of code that reads `many t`, turn by turn.
 pub mod Turns
 -- Runs of bytes that pass a test, and the loop that reads one.

@@ -4,7 +4,7 @@ ghost use mathlib.Core.List.{[], _∷_};
 ghost use Prim.Native.Nat.{_+_, _^_, _<_, _≤_};
 ghost use lib.ListN.{length};
 ghost use Rattle.rules.specs.Parse.{byteAt, opens};
-ghost use Rattle.jsx.specs.Byte.{need};
+ghost use Rattle.jsx.specs.Byte.{_‥_, need};
 ghost use Rattle.jsx.specs.Name.{same};
 ghost use Rattle.lex.specs.Contract.{Leaf, nothing, expectByte, bytesFrom};
 use bytes::END;
@@ -34,6 +34,13 @@ pub fn byte(s: &[u8], at: usize) -> u32
     ensures { λ r. ⌜ r ≡ byteAt (now (s .entry)) at ⌝ }
 {
     if at < s.len() { wide(s[at]) } else { END }
+}
+
+// From lo to hi, both included.
+pub fn within(b: u32, lo: u32, hi: u32) -> bool
+    ensures { λ r. ⌜ r ≡ (lo ‥ hi) b ⌝ }
+{
+    lo <= b && b <= hi
 }
 
 // Something is needed here and does not begin here: 4 at the end, 3 elsewhere. (The Rust's `unexpected`.)

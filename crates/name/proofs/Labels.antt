@@ -18,23 +18,6 @@ use Rattle.lex.specs.Contract.{bytesFrom}
 
 -- ---- the first byte
 
-module _ (b : ℕ) {x : Bool} (h : x ≡ (65 ‥ 90) b) where
-  -- A letter from A to Z opens a reference.
-  pub opens-letter : x ≡ true → x ≡ opensReference b
-  unfolding opensReference
-  opens-letter e = e ∙ sym (rw (sym h ∙ e))
-
-  module _ (e : x ≡ false) where
-    -- `_` opens a reference.
-    pub opens-low : {y : Bool} → b ≡ 95 → y ≡ eqb b 95 → y ≡ opensReference b
-    unfolding opensReference
-    opens-low f g = g ∙ eq-eqb b 95 f ∙ sym (rw (sym h ∙ e, eq-eqb b 95 f))
-
-    -- Of all other bytes just `$` opens one.
-    pub opens-sign : (b ≡ 95 → ⊥) → eqb b 36 ≡ opensReference b
-    unfolding opensReference
-    opens-sign f = sym (rw (sym h ∙ e, ne-eqb b 95 f))
-
 -- A name's first byte is the input's there.
 first-is : (f : Test) (s : List ℕ) (a n : ℕ) → 0 < n → firstIs f (bytesFrom s a n) ≡ f (byteAt s a)
 unfolding firstIs bytesFrom
@@ -131,9 +114,6 @@ module _ (s : List ℕ) (a b : ℕ) {v : Bool} (l : v ≡ isThis (bytesFrom s a 
 
 pub ruleset kind-steps = (
   needs,
-  opens-letter,
-  opens-low,
-  opens-sign,
   name-dashed,
   name-reference,
   name-this,

@@ -52,11 +52,12 @@ fn is_this(s: &[u8], a: usize, b: usize) -> bool
     }
 }
 
-// A to Z, `_` or `$`.
+// A to Z, `_`, `$`, or a byte of a character beyond ASCII.
 fn opens_reference(b: u32) -> bool
     ensures { λ r. ⌜ r ≡ opensReference b ⌝ }
 {
-    word::within(b, UPPER_A, UPPER_Z) || (b == UNDERSCORE || b == DOLLAR)
+    lex::within(b, UPPER_A, UPPER_Z)
+        || (b == UNDERSCORE || (b == DOLLAR || lex::within(b, 0x80, 0xFF)))
 }
 
 // The kind of a one-part name from a to b: identifier, reference or This.

@@ -1,31 +1,24 @@
 -- The end of what was read before: what each need of `part_end` and `blanks_end` follows from.
-use mathlib.Core.Path.{_≡_, refl, sym, subst, _∙_}
-use mathlib.Core.Bool.{Bool, true, false}
+use mathlib.Core.Path.{_≡_, sym, _∙_}
+use mathlib.Core.Bool.{true}
 use mathlib.Core.List.{List}
 use Prim.Native.Nat.{ℕ}
 use borrow.Author.Needs.{needs}
-use Rattle.rules.specs.Parse.{byteAt}
+use Rattle.rules.specs.Parse.{codeAt}
 use Rattle.rules.proofs.Got.{trouble-got}
 use Rattle.jsx.specs.Blank.{blanks}
-use Rattle.jsx.specs.Name.{opensName, inName, part as namePart}
+use Rattle.jsx.specs.Name.{opensPart, part as namePart}
 use Rattle.lex.specs.Contract.{nothing, Leaf, Past}
 use Rattle.lex.specs.declared.Ans.{Ans}
 use Rattle.lex.specs.declared.Ans.the-variants.{Got, No}
 use Rattle.lex.proofs.Bare.{goes-blanks}
 use Rattle.lex.proofs.Laws as Lex
-use Rattle.lex.proofs.Runs.{run}
-use Rattle.word.proofs.RunSteps as Word
+use Rattle.word.proofs.Again.{part-opens}
 use Rattle.same.specs.Contract.{ReadsAt}
 
--- The first byte of a part that was read opens a name.
-pub part-opened : (s : List ℕ) (at : ℕ) → ReadsAt s namePart at → opensName (byteAt s at) ≡ true
-unfolding namePart
-part-opened s at v = go (opensName (byteAt s at)) refl
-  where
-    go : (b : Bool) → opensName (byteAt s at) ≡ b → b ≡ true
-    go true e = refl
-    go false e =
-        absurd (subst Lex.Fails (Word.front-no opensName (run inName) s at e ∙ v .read) (Lex.need-fails s at))
+-- The first character of a part that was read opens one.
+pub part-opened : (s : List ℕ) (at : ℕ) → ReadsAt s namePart at → opensPart (codeAt s at) ≡ true
+part-opened s at v = part-opens s at (v .to) (v .read)
 
 -- Blanks that were read can't be refused.
 pub blanks-again : {s : List ℕ} {at p n a b c d : ℕ} {r : Ans} → ReadsAt s blanks at → Leaf nothing r s blanks at 0

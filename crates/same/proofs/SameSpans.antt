@@ -1,23 +1,31 @@
 -- Element names of the same bytes are equal.
-use mathlib.Core.Path.{_≡_, refl, sym, _∙_}
+use mathlib.Core.Path.{_≡_, refl, sym, ap, _∙_}
 use mathlib.Core.Bool.{Bool, true, false}
 use mathlib.Core.List.{List}
 use Prim.Native.Char.{code}
 use Prim.Native.Nat.{ℕ, zero, suc, _+_, _≤_, _<_}
 use native.Mathlib.Omega.{arith}
 use lib.ListN.{length}
-use lib.Dec.{eqb}
-use borrow.Author.Tests.{eq-eqb}
+use lib.Dec.{ltb}
+use borrow.Author.Tests.{eq-eqb, ltb-true}
 use Rattle.rules.specs.Rule.{Rule}
-use Rattle.rules.specs.Parse.{pick, byteAt}
+use Rattle.rules.specs.Parse.{pick, byteAt, noChar, codeAt}
+use Rattle.rules.proofs.Run.{never}
 use Rattle.rules.proofs.Local.{up-got}
 use Rattle.rules.proofs.Ends.{top-got}
 use Rattle.rules.proofs.Flow.{advances}
 use Rattle.rules.proofs.Advance.{advance}
-use Rattle.jsx.specs.Byte.{need}
+use Rattle.jsx.specs.Byte.{is, _‥_, need}
 use Rattle.jsx.specs.Blank.{blanks}
-use Rattle.jsx.specs.Name.{same, opensName, part as namePart}
+use Rattle.jsx.specs.Name.{same, opensName, opensPart, part as namePart}
 use Rattle.lex.specs.Contract.{Past}
+use Rattle.lex.proofs.Ranges.{in-range}
+use Rattle.character.specs.Width.{widthOf}
+use Rattle.character.proofs.CodeSteps.{code-alone}
+use Rattle.character.proofs.WidthSteps.{width-one}
+use Rattle.character.proofs.Read.{by-first}
+use Rattle.word.proofs.PartTests.{opens-ascii, none-opens}
+use Rattle.word.proofs.Again.{part-opens, first-within}
 use Rattle.same.specs.Contract.{ReadsAt, ReadTo, Named, behindColon, behindDot, sameParts}
 use Rattle.same.proofs.Names as Names
 use Rattle.same.proofs.Forms.{bytesTo, colon, dot, Several, Form, one, several, begins, blanks-behind, form-at}
@@ -25,9 +33,8 @@ use Rattle.same.proofs.Equal as Equal
 use Rattle.same.proofs.Equal.{equal}
 use Rattle.same.proofs.Member as Member
 use Rattle.same.proofs.Member.{After, over, next}
-use Rattle.same.proofs.EndSteps.{part-opened}
 use Rattle.same.proofs.NamespacedSteps as Namespaced
-use Rattle.same.proofs.Twins.{ends, Twins, twin-same, blanks-twin, part-twin}
+use Rattle.same.proofs.Twins.{ends, Edge, Twins, twin-same, blanks-twin, part-twin}
 
 -- ---- what was read ends somewhere
 
@@ -43,28 +50,62 @@ module _ {s : List ℕ} {at : ℕ} where
       let i = advance s (suc (length s)) namePart refl 0 at _ _ (r .read) in
       record { is = r .read; far = (omega arith, top-got s (suc (length s)) namePart 0 at (r .inside) (r .read)) }
 
--- ---- the byte behind blanks
+-- ---- the character behind blanks
 
-ends-colon : {b : ℕ} → b ≡ code ":" → ends b ≡ true
-unfolding ends
-ends-colon {b} e = rw (eq-eqb b (code ":") e)
+module _ (s : List ℕ) (p b : ℕ) where
+  -- A byte of ASCII,
+  edge-byte : (k : ℕ) → byteAt s p ≡ k → ltb k 0x80 ≡ true → ends k ≡ true → p < b → Edge s p b
+  edge-byte k e h i l =
+      let j = ltb-true k 0x80 h in
+      let c = code-alone s p {b = k} (sym e) j in
+      let w = width-one {b = byteAt s p} (omega arith) in
+      record { byte = ap ends e ∙ i; coded = λ x. absurd (omega arith); inside = omega arith }
 
-ends-dot : {b : ℕ} → b ≡ code "." → ends b ≡ true
-unfolding ends
-ends-dot {b} e = go (eqb b (code ":"))
-  where
-    go : (z : Bool) → pick z true (pick (eqb b (code ".")) true (opensName b)) ≡ true
-    go true = refl
-    go false = rw (eq-eqb b (code ".") e)
+  edge-colon : byteAt s p ≡ code ":" → p < b → Edge s p b
+  unfolding ends
+  edge-colon e l = edge-byte (code ":") e refl refl l
 
-ends-name : (b : ℕ) → opensName b ≡ true → ends b ≡ true
-unfolding ends
-ends-name b e = go (eqb b (code ":")) (eqb b (code "."))
-  where
-    go : (y z : Bool) → pick y true (pick z true (opensName b)) ≡ true
-    go true z = refl
-    go false true = refl
-    go false false = e
+  edge-dot : byteAt s p ≡ code "." → p < b → Edge s p b
+  unfolding ends
+  edge-dot e l = edge-byte (code ".") e refl refl l
+
+  -- and a part's first character.
+  edge-part : {e : ℕ} → Past e s namePart p 1 → e ≤ b → Edge s p b
+  unfolding ends
+  edge-part {e} l le =
+      let o = part-opens s p e (l .is) in
+      let k : codeAt s p ≡ noChar → ⊥ = λ z. never (sym none-opens ∙ sym (ap opensPart z) ∙ o) in
+      let i = first-within s p e (l .is) in
+      record {
+        byte = by-first s p k (λ n. ends (byteAt s p) ≡ true)
+            (λ h. low (opensName-here o h))
+            (λ h u j. high (in-range 0xC0 0xFF (byteAt s p) h (omega arith)))
+            (λ h u j. high (in-range 0xC0 0xFF (byteAt s p) (omega arith) (omega arith)))
+            (λ h u j. high (in-range 0xC0 0xFF (byteAt s p) (omega arith) (omega arith)));
+        coded = k;
+        inside = omega arith;
+      }
+    where
+      opensName-here : opensPart (codeAt s p) ≡ true → byteAt s p < 0x80 → opensName (byteAt s p) ≡ true
+      opensName-here o h = sym (opens-ascii (byteAt s p) h) ∙ ap opensPart (code-alone s p refl h) ∙ o
+
+      low : opensName (byteAt s p) ≡ true → ends (byteAt s p) ≡ true
+      low h = go (is ":" (byteAt s p)) (is "." (byteAt s p))
+        where
+          go : (y z : Bool)
+              → pick y true (pick z true (pick (opensName (byteAt s p)) true ((0xC0 ‥ 0xFF) (byteAt s p)))) ≡ true
+          go true z = refl
+          go false true = refl
+          go false false = rw h
+
+      high : (0xC0 ‥ 0xFF) (byteAt s p) ≡ true → ends (byteAt s p) ≡ true
+      high h = go (is ":" (byteAt s p)) (is "." (byteAt s p)) (opensName (byteAt s p))
+        where
+          go : (x y z : Bool) → pick x true (pick y true (pick z true ((0xC0 ‥ 0xFF) (byteAt s p)))) ≡ true
+          go true y z = refl
+          go false true z = refl
+          go false false true = refl
+          go false false false = h
 
 -- ---- behind a colon
 
@@ -82,7 +123,7 @@ colon-twin {s} {b = b} {d = d} v tw lo h g =
     let e : o .to ≡ b = Namespaced.colon-part-ends h k in
     let far = k .far in
     let far₂ = l .far in
-    let i = blanks-twin v tw lo k (omega arith) (ends-name _ (part-opened s (r .to) o)) k₂ in
+    let i = blanks-twin v tw lo k (edge-part s (r .to) b l (omega arith)) k₂ in
     let z = v .long in
     sym (Namespaced.second-parts h g k k₂ refl) ∙ twin-same v (r .to) b (r₂ .to) d i (omega arith) z (omega arith)
 
@@ -94,7 +135,6 @@ record Step (s : List ℕ) (x b : ℕ) : Type 0 where
   e : ℕ
   q : ℕ
   passed : Past i s blanks x 0
-  opened : ends (byteAt s i) ≡ true
   part : Past e s namePart i 1
   behind : Past q s blanks e 0
   after : After s x b i e q
@@ -109,7 +149,6 @@ step {s} h =
       e = Member.dot-part h k .to;
       q = Member.part-blanks h k l .to;
       passed = k;
-      opened = ends-name _ (part-opened s _ (Member.dot-part h k));
       part = l;
       behind = m;
       after = Member.after-at h k l m;
@@ -138,7 +177,7 @@ module _ {s : List ℕ} {a b c d : ℕ} (v : Twins s a b c d) where
       starts =
           let far = m .part .far in
           let w = after-within (m .after) in
-          blanks-twin v tw lo (m .passed) (omega arith) (m .opened) (m₂ .passed)
+          blanks-twin v tw lo (m .passed) (edge-part s (m .i) b (m .part) w) (m₂ .passed)
 
       stops : m .e + c ≡ m₂ .e + a
       stops =
@@ -164,7 +203,7 @@ module _ {s : List ℕ} {a b c d : ℕ} (v : Twins s a b c d) where
           let far₁ = m .part .far in
           let far₂ = m .behind .far in
           let up = up-got s (suc (length s)) behindDot 0 (m .q + 1) (r .read) in
-          let dots = blanks-twin v stops (omega arith) (m .behind) (omega arith) (ends-dot o) (m₂ .behind) in
+          let dots = blanks-twin v stops (omega arith) (m .behind) (edge-dot s (m .q) b o (omega arith)) (m₂ .behind) in
           let on = Member.go-on (m .after) (m₂ .after) parts (λ l. omega arith) (λ l. omega arith) in
           on .2 ∙ again (m .q + 1) (m₂ .q + 1) (omega arith) (omega arith) (omega arith) r r₂
 
@@ -211,13 +250,13 @@ names-twin {s} {a} {b} {c} {d} n n₂ v = go (m .form) (m₂ .form)
     parts : same (bytesTo s a (m .e)) (bytesTo s c (m₂ .e)) ≡ true
     parts = twin-same v a (m .e) c (m₂ .e) (omega arith) (omega arith) stops (form-within (m .form))
 
-    separators : {t : Rule} {k : ℕ} → Several s a b (m .e) (m .q) k t → ends (byteAt s (m .q)) ≡ true
+    separators : {t : Rule} {k : ℕ} → Several s a b (m .e) (m .q) k t → (m .q < b → Edge s (m .q) b)
         → (m .q + c ≡ m₂ .q + a) × (a ≤ m .q) × (byteAt s (m .q) ≡ byteAt s (m₂ .q))
     separators {t} h o =
         let far = m .part .far in
         let far₂ = m .behind .far in
         let up = up-got s (suc (length s)) t 0 (m .q + 1) (h .rest .read) in
-        let tw = blanks-twin v stops (omega arith) (m .behind) (omega arith) o (m₂ .behind) in
+        let tw = blanks-twin v stops (omega arith) (m .behind) (o (omega arith)) (m₂ .behind) in
         (tw, omega arith, v .bytes (m .q) (m₂ .q) tw (omega arith) (omega arith))
 
     go : Form s a b (m .e) (m .q) → Form s c d (m₂ .e) (m₂ .q) → equal s a c ≡ true
@@ -231,14 +270,14 @@ names-twin {s} {a} {b} {c} {d} n n₂ v = go (m .form) (m₂ .form)
         let l = h .longer in
         absurd (omega arith)
     go (several colon x h) (several colon x₂ g) =
-        let t = separators h (ends-colon x) in
+        let t = separators h (edge-colon s (m .q) b x) in
         let tw = t .0 in
         let lo = t .1 in
         Equal.rests h g parts ∙ colon-twin v (omega arith) (omega arith) (h .rest) (g .rest)
-    go (several colon x h) (several dot x₂ g) = let y = separators h (ends-colon x) .2 in absurd (omega arith)
-    go (several dot x h) (several colon x₂ g) = let y = separators h (ends-dot x) .2 in absurd (omega arith)
+    go (several colon x h) (several dot x₂ g) = let y = separators h (edge-colon s (m .q) b x) .2 in absurd (omega arith)
+    go (several dot x h) (several colon x₂ g) = let y = separators h (edge-dot s (m .q) b x) .2 in absurd (omega arith)
     go (several dot x h) (several dot x₂ g) =
-        let t = separators h (ends-dot x) in
+        let t = separators h (edge-dot s (m .q) b x) in
         let tw = t .0 in
         let lo = t .1 in
         Equal.rests h g parts

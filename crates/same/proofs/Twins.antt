@@ -6,30 +6,34 @@ use Prim.Native.Nat.{ℕ, zero, suc, _+_, _-_, _≤_, _<_}
 use Prim.Native.Char.{code}
 use native.Mathlib.Nat.{le-refl}
 use native.Mathlib.Omega.{arith}
-use native.Mathlib.Decide.{decLt}
 use lib.ListN.{length, getD}
-use lib.Dec.{ltb}
-use borrow.Author.Tests.{eq-eqb, lt-ltb, eqb-true}
+use lib.Dec.{ltb, leb}
+use borrow.Author.Tests.{eq-eqb, lt-ltb, le-ltb, leb-true, eqb-true}
 use Rattle.rules.specs.Forest.{Forest}
 use Rattle.rules.specs.Rule.{Test, Rule, done, step}
-use Rattle.rules.specs.Parse.{got, pick, byteAt, readAt}
+use Rattle.rules.specs.Parse.{got, pick, byteAt, noChar, codeAt, readAt}
 use Rattle.rules.proofs.Local.{Seen, local-got}
-use Rattle.rules.proofs.Agree.{Lacks, stands-twin}
+use Rattle.rules.proofs.Run.{both}
+use Rattle.rules.proofs.Agree.{heads, Lacks, stands-twin}
 use Rattle.rules.proofs.Flow.{Mode, near, same, tight-near, seen-near, advances, lacking, Flow}
 use Rattle.rules.proofs.Flow.{f-weak, f-stop, f-step, f-refuse, f-when, f-look, f-seq, f-many, f-marked}
 use Rattle.rules.proofs.Reach.{reach}
-use Rattle.jsx.specs.Byte.{is, _or_, letter, need, character}
+use Rattle.jsx.specs.Byte.{is, _or_, _‥_, letter, character}
 use Rattle.jsx.specs.Blank.{commentTurn, comment, lineTurn, lineComment, blank, blanks}
 use Rattle.jsx.specs.Name as Name
 use Rattle.jsx.specs.Name.{opensName, part as namePart}
 use Rattle.lex.specs.Contract.{bytesFrom, Past}
 use Rattle.lex.proofs.SameBytes.{length-part}
+use Rattle.character.specs.Width.{widthOf}
+use Rattle.character.proofs.Read.{character-wide}
+use Rattle.character.proofs.Again.{code-again}
 use Rattle.word.proofs.Ascii.{opens-low}
+use Rattle.word.proofs.Again.{parts-twin}
 use Rattle.same.proofs.Names as Names
 use Rattle.same.proofs.Forms.{bytesTo}
 use Rattle.same.proofs.Equal.{same-is}
 
--- ---- parts and blanks look no further than the byte at their end
+-- ---- blanks look no further than the character at their end
 
 -- No `look` of the rule goes on behind a byte that passes Q.
 abbrev Near : Test → Rule → Mode → Type 0
@@ -38,15 +42,9 @@ Near Q t k = Flow (λ d. done) Q (λ l o. Unit {0}) near t near k
 step-near : {Q : Test} {k : Mode} → Near Q step k
 step-near = f-weak same tight-near same f-step
 
-part-near : {Q : Test} → Near Q namePart near
-unfolding namePart need advances
-part-near =
-    f-seq (f-when seen-near step-near (f-when seen-near (f-refuse refl) (f-refuse refl)))
-    (f-many refl (f-when seen-near step-near f-stop))
-
--- The bytes behind blanks within a name.
+-- The bytes behind blanks within a name: a separator, or the first of a part.
 unfoldable pub ends : Test
-ends = is ":" or is "." or opensName
+ends = is ":" or is "." or opensName or (0xC0 ‥ 0xFF)
 
 comment-near : {k : Mode} → Near ends comment k
 unfolding comment commentTurn advances lacking ends opensName letter
@@ -55,21 +53,27 @@ comment-near =
     (f-many refl (f-when seen-near (f-refuse refl) (f-look seen-near refl f-stop step-near)))
     (f-seq step-near step-near))))
 
--- Each of them is a character of its own.
-ends-low : (b : ℕ) → ends b ≡ true → ltb b 0x80 ≡ true
+-- None of them goes on with a character.
+ends-head : (b : ℕ) → ends b ≡ true → heads b ≡ true
 unfolding ends
-ends-low b h = go (is ":" b) (is "." b) refl refl h
+ends-head b h = go (is ":" b) (is "." b) (opensName b) refl refl refl h
   where
-    go : (x y : Bool) → is ":" b ≡ x → is "." b ≡ y → pick x true (pick y true (opensName b)) ≡ true → ltb b 0x80 ≡ true
-    go true y e f k = rw (eqb-true b (code ":") e)
-    go false true e f k = rw (eqb-true b (code ".") f)
-    go false false e f k = lt-ltb b 0x80 (opens-low b k)
+    go : (x y z : Bool) → is ":" b ≡ x → is "." b ≡ y → opensName b ≡ z
+        → pick x true (pick y true (pick z true ((0xC0 ‥ 0xFF) b))) ≡ true
+        → heads b ≡ true
+    go true y z e f g k = rw (eqb-true b (code ":") e)
+    go false true z e f g k = rw (eqb-true b (code ".") f)
+    go false false true e f g k = rw (lt-ltb b 0x80 (opens-low b g))
+    go false false false e f g k =
+        let l = both (leb 0xC0 b) (leb b 0xFF) k .0 in
+        let i = leb-true 0xC0 b l in
+        rw (le-ltb b 0x80 (omega arith), l)
 
 line-near : {k : Mode} → Near ends lineComment k
 unfolding lineComment lineTurn advances
 line-near =
     f-seq step-near
-    (f-seq step-near (f-many refl (f-when seen-near f-stop (f-look seen-near ends-low f-stop step-near))))
+    (f-seq step-near (f-many refl (f-when seen-near f-stop (f-look seen-near ends-head f-stop step-near))))
 
 character-near : Near ends character near
 character-near =
@@ -80,8 +84,14 @@ character-near =
 blanks-near : Near ends blanks near
 unfolding blanks blank comment lineComment advances lacking ends opensName letter
 blanks-near =
-    f-many refl (f-look seen-near ends-low character-near
+    f-many refl (f-look seen-near ends-head character-near
     (f-look seen-near refl comment-near (f-look seen-near refl line-near f-stop)))
+
+-- A character at p, before b, behind blanks within a name.
+pub record Edge (s : List ℕ) (p b : ℕ) : Type 0 where
+  pub byte : ends (byteAt s p) ≡ true
+  pub coded : codeAt s p ≡ noChar → ⊥
+  pub inside : p + widthOf (byteAt s p) ≤ b
 
 -- ---- spans with the same bytes
 
@@ -144,19 +154,22 @@ module _ {s : List ℕ} {a b c d : ℕ} (v : Twins s a b c d) where
           rw (eq-eqb (byteAt s p) (byteAt s q) (v .bytes p q t l (omega arith)))
           (go n (p + 1) (q + 1) (omega arith) (omega arith) (omega arith))
 
-  -- Where the byte before h passes a test, they show the same before h, if nothing is asked that goes on behind such a
-  -- byte.
-  seen-twin : (Q : Test) (h : ℕ) → h ≤ b → ((j : ℕ) → j + 1 ≡ h → Q (byteAt s j) ≡ true) → (p q : ℕ) → p + c ≡ q + a
+  -- Where the byte before h passes a test, and the same character begins there in both, they show the same before h,
+  -- if nothing is asked that goes on behind such a byte.
+  seen-twin : (Q : Test) (h : ℕ) → h ≤ b → ((j : ℕ) → j + 1 ≡ h → Q (byteAt s j) ≡ true)
+      → ((j k : ℕ) → j + c ≡ k + a → j + 1 ≡ h → codeAt s j ≡ codeAt s k)
+      → (p q : ℕ) → p + c ≡ q + a
       → a ≤ p
       → p < h
       → Seen (Lacks Q) s s p q
-  seen-twin Q h le al p q tw lo lt =
+  seen-twin Q h le al cs p q tw lo lt =
       let l = v .long in
       let i = v .inside in
       let j = v .inside₂ in (
         v .bytes p q tw lo (omega arith),
         lt-ltb p (length s) (omega arith) ∙ sym (lt-ltb q (length s) (omega arith)),
-        λ w x. stands-twin s s a c a h (λ p₁ q₁ e m n. v .bytes p₁ q₁ e m (omega arith)) Q al w p q tw lo lt x,
+        λ w x. stands-twin s s a c a h (λ p₁ q₁ e m n. v .bytes p₁ q₁ e m (omega arith)) Q al
+            (λ k p₁ q₁ e m n. cs p₁ q₁ e n) w p q tw lo lt x,
       )
 
   -- What a rule reads within the one span, it reads within the other.
@@ -164,34 +177,32 @@ module _ {s : List ℕ} {a b c d : ℕ} (v : Twins s a b c d) where
       → readAt s t x ≡ got true o p
       → p < b
       → Q (byteAt s p) ≡ true
+      → ((q : ℕ) → p + c ≡ q + a → codeAt s p ≡ codeAt s q)
       → (q : ℕ) × (readAt s t y ≡ got true o q) × (p + c ≡ q + a)
-  read-twin {Q} {t} f x y {p} {o} tw lo up h lt k =
+  read-twin {Q} {t} f x y {p} {o} tw lo up h lt k cs =
       let F = suc (length s) in
       let i = v .inside in
       let al : (j : ℕ) → j + 1 ≡ p + 1 → Q (byteAt s j) ≡ true =
       λ j e. let z : p ≡ j = omega arith in subst (λ (n : ℕ). Q (byteAt s n) ≡ true) z k in
       local-got (Lacks Q) s s a c x (p + 1) (p + 1) (le-refl _)
-      (λ p₁ q₁ tw₁ lo₁ hi₁. seen-twin Q (p + 1) (omega arith) al p₁ q₁ tw₁ (omega arith) hi₁)
+      (λ p₁ q₁ tw₁ lo₁ hi₁. seen-twin Q (p + 1) (omega arith) al
+      (λ j m e₁ e₂. let z : p ≡ j = omega arith in
+      subst (λ (n : ℕ). codeAt s n ≡ codeAt s m) z (cs m (omega arith))) p₁ q₁ tw₁ (omega arith) hi₁)
       F F t 0 0 x y (omega arith) tw (le-refl _)
       (reach (λ d. done) Q (λ l o. Unit {0}) s F f 0 x true o p h (p + 1) (omega arith) .0) h (omega arith)
 
-  -- Blanks that end within the one span end at twins.
-  pub blanks-twin : {x y p q : ℕ} → x + c ≡ y + a → a ≤ x → Past p s blanks x 0 → p < b → ends (byteAt s p) ≡ true
+  -- Blanks that end at such a character of the one span end at twins.
+  pub blanks-twin : {x y p q : ℕ} → x + c ≡ y + a → a ≤ x → Past p s blanks x 0 → Edge s p b
       → Past q s blanks y 0
       → p + c ≡ q + a
-  blanks-twin {x} {y} {q = q} tw lo l lt k m =
+  blanks-twin {x} {y} {p} {q} tw lo l k m =
       let far = l .far in
-      let r = read-twin blanks-near x y tw lo (omega arith) (l .is) lt k in
+      let wide = character-wide s p (k .coded) in
+      let in-span = k .inside in
+      let cs : (z : ℕ) → p + c ≡ z + a → codeAt s p ≡ codeAt s z =
+      λ z e. code-again s p z (k .coded) (λ i u. v .bytes (p + i) (z + i) (omega arith) (omega arith) (omega arith)) in
+      let r = read-twin blanks-near x y tw lo (omega arith) (l .is) (omega arith) (k .byte) cs in
       let e : r .0 ≡ q = Names.past-same s (r .1) m in
-      let g = r .2 in
-      omega arith
-
-  part-within : {x y e f : ℕ} → x + c ≡ y + a → a ≤ x → Past e s namePart x 1 → e < b → Past f s namePart y 1
-      → e + c ≡ f + a
-  part-within {x} {y} {f = f} tw lo l lt m =
-      let far = l .far in
-      let r = read-twin {Q = λ z. true} part-near x y tw lo (omega arith) (l .is) lt refl in
-      let e : r .0 ≡ f = Names.past-same s (r .1) m in
       let g = r .2 in
       omega arith
 
@@ -202,11 +213,8 @@ pub part-twin : {s : List ℕ} {a b c d : ℕ} → Twins s a b c d → {x y e f 
     → Past f s namePart y 1
     → f ≤ d
     → e + c ≡ f + a
-part-twin {s} {a} {b} {c} {d} v {x} {y} {e} {f} tw lo l le m le₂ = go (decLt e b) (decLt f d)
-  where
-    go : Dec (e < b) → Dec (f < d) → e + c ≡ f + a
-    go (yes i) j = part-within v tw lo l i m
-    go (no i) (yes j) =
-        let z : f + a ≡ e + c = part-within (swapped v) (omega arith) (omega arith) m j l in
-        omega arith
-    go (no i) (no j) = let z = v .long in omega arith
+part-twin {s} {a} {b} {c} {d} v {x} {y} {e} {f} tw lo l le m le₂ =
+    let long = v .long in
+    let z = parts-twin s x y e f b d (l .is) (m .is)
+    (λ i h. v .bytes (x + i) (y + i) (omega arith) (omega arith) h) (omega arith) le le₂ in
+    omega arith

@@ -39,7 +39,7 @@ pub fn too_deep(s: &[u8], at: usize, a: usize) -> Ans
     if b == GREATER {
         return Ans::No(TOO_DEEP, at, at, 0, 0);
     }
-    if word::opens_name(b) {
+    if word::opens_part(s, a) {
         return Ans::No(TOO_DEEP, at, at, 0, 0);
     }
     lex::unexpected(s, a)

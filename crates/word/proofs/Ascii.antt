@@ -1,17 +1,18 @@
--- A byte that opens a name is a character of ASCII behind the space.
-use mathlib.Core.Path.{_≡_, sym, _∙_}
-use mathlib.Core.Bool.{true, false}
+-- The bytes of names are of ASCII, behind the space.
+use mathlib.Core.Path.{_≡_, refl, sym, _∙_}
+use mathlib.Core.Bool.{Bool, true, false}
 use Prim.Native.Nat.{ℕ, _<_}
 use native.Mathlib.Omega.{arith}
 use native.Mathlib.Decide.{decLt}
 use lib.Dec.{leb, eqb}
 use borrow.Author.Tests.{ne-eqb, leb-true}
 use Rattle.rules.proofs.Run.{never, both}
-use Rattle.jsx.specs.Byte.{_‥_, letter}
-use Rattle.jsx.specs.Name.{opensName}
+use Rattle.jsx.specs.Byte.{_‥_, letter, digit}
+use Rattle.jsx.specs.Name.{opensName, inWord}
 use Rattle.lex.proofs.Ranges.{in-range, under, over}
+use Rattle.word.specs.Here.{nameByte}
 
--- It is none below, and none beyond ASCII.
+-- A byte that opens a name.
 pub opens-token : (b : ℕ) → opensName b ≡ true → (0x21 ‥ 0x7F) b ≡ true
 unfolding opensName letter
 opens-token b h = go (decLt b 0x21) (decLt b 0x80)
@@ -32,3 +33,13 @@ pub opens-low : (b : ℕ) → opensName b ≡ true → b < 0x80
 opens-low b h =
     let k = leb-true b 0x7F (both (leb 0x21 b) (leb b 0x7F) (opens-token b h) .1) in
     omega arith
+
+-- So is any byte of a name.
+pub name-low : (b : ℕ) → nameByte b ≡ true → b < 0x80
+unfolding nameByte inWord digit
+name-low b h = go (decLt b 0x80) (opensName b) refl
+  where
+    go : Dec (b < 0x80) → (o : Bool) → opensName b ≡ o → b < 0x80
+    go (yes k) o e = k
+    go (no k) true e = opens-low b e
+    go (no k) false e = never (rw (e, over 48 57 b (omega arith), ne-eqb b 45 (λ x. omega arith)) at h)

@@ -1,6 +1,23 @@
 -- What calls, sums and loops of this crate ask.
 use borrow.Author.Needs.{needs}
 use Rattle.lex.proofs.Runs.{run-nearer}
-use Rattle.word.proofs.RunSteps.{word-end, name-end, opens-asked}
+use Rattle.word.proofs.RunSteps.{word-end, opens-asked}
+use Rattle.word.proofs.PartSteps.{byte-inside, byte-nearer, first-asked, first-inside, first-fits}
+use Rattle.word.proofs.PartSteps.{beyond-asked, part-fits, part-nearer, common-fits, common-nearer}
 
-pub ruleset asked = (needs, word-end, name-end, run-nearer, opens-asked)
+pub ruleset asked = (
+  needs,
+  word-end,
+  run-nearer,
+  opens-asked,
+  byte-inside,
+  byte-nearer,
+  first-asked,
+  first-inside,
+  first-fits,
+  beyond-asked,
+  part-fits,
+  part-nearer,
+  common-fits,
+  common-nearer,
+)

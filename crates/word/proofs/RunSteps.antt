@@ -1,4 +1,4 @@
--- Names and their parts, runs of bytes that pass a test: what each need of their readers follows from.
+-- Names in braces, runs of bytes that pass a test: what each need of their readers follows from.
 use mathlib.Core.Path.{_≡_, refl, ap}
 use mathlib.Core.Bool.{Bool, true, false}
 use mathlib.Core.List.{List}
@@ -10,7 +10,7 @@ use Rattle.rules.specs.Rule.{Test, Rule, stop, step, when, _⨾_, _⇒_∣_}
 use Rattle.rules.specs.Parse.{got, trouble, pick, andThen, behind, byteAt, parse, parsed, readAt}
 use Rattle.jsx.specs.Refusal.{unexpected, endOfInput}
 use Rattle.jsx.specs.Byte.{end, letter, digit, need}
-use Rattle.jsx.specs.Name.{opensName, inWord, inName, part as namePart}
+use Rattle.jsx.specs.Name.{opensName, inWord}
 use Rattle.jsx.specs.Word.{word}
 use Rattle.lex.specs.Contract.{nothing, Leaf, Past}
 use Rattle.lex.specs.declared.Ans.{Ans}
@@ -30,11 +30,6 @@ opens-end = refl
 pub word-end : inWord 256 ≡ false
 unfolding inWord opensName letter digit
 word-end = refl
-
--- It is in no name.
-pub name-end : inName 256 ≡ false
-unfolding inName inWord opensName letter digit
-name-end = refl
 
 -- A byte that opens a name.
 pub opens-inside : (s : List ℕ) (at : ℕ) → opensName (byteAt s at) ≡ true → at < length s
@@ -64,14 +59,6 @@ module _ (f : Test) (u : Rule) (s : List ℕ) (at : ℕ) where
 -- ---- what a run ends with
 
 module _ {s : List ℕ} {at p b : ℕ} {t : Bool} where
-  -- A part of a name.
-  pub part-ends : opensName (byteAt s at) ≡ true → Turns s (when inName step stop) 0 (at + 1) p → b ≡ byteAt s p
-      → t ≡ inName b → t ≡ false → Past p s namePart at 1
-  unfolding namePart
-  part-ends o v y i x =
-      let h = opens-inside s at o in
-      past h v (front-got opensName (run inName) s at o h (run-ends v y i x))
-
   -- A name inside braces.
   pub word-ends : opensName (byteAt s at) ≡ true → Turns s (when inWord step stop) 0 (at + 1) p → b ≡ byteAt s p
       → t ≡ inWord b → t ≡ false → Past p s word at 1
@@ -87,12 +74,7 @@ pub past-is : {s : List ℕ} {g : Rule} {at k p : ℕ} → Past p s g at k → L
 past-is {s} {g} {at} {k} {p} l = leaf-done nothing s g at k p 0 (l .is) refl (l .far)
 
 module _ {s : List ℕ} {at b : ℕ} (y : b ≡ byteAt s at) {t : Bool} (i : t ≡ opensName b) (x : t ≡ false) {r : Ans} where
-  -- A part of a name does not begin here.
-  pub part-fails : Leaf nothing r s need at 0 → Leaf nothing r s namePart at 1
-  unfolding namePart
-  part-fails l = leaf-refuses l (front-no opensName (run inName) s at (tested opensName y i x)) (need-fails s at)
-
-  -- A name inside braces does not.
+  -- A name inside braces does not begin here.
   pub word-fails : Leaf nothing r s need at 0 → Leaf nothing r s word at 1
   unfolding word
   word-fails l = leaf-refuses l (front-no opensName (run inWord) s at (tested opensName y i x)) (need-fails s at)
@@ -105,13 +87,10 @@ module _ (s : List ℕ) (at : ℕ) {b : ℕ} (y : b ≡ byteAt s at) {t : Bool} 
 pub ruleset run-steps = (
   opens-end,
   word-end,
-  name-end,
   opens-inside,
   run-begins,
   run-goes-on,
-  part-ends,
   word-ends,
   past-is,
-  part-fails,
   word-fails,
 )

@@ -1,13 +1,16 @@
-// Names: tests of their bytes, their parts, and names inside braces.
+// Names: tests of their bytes and characters, their parts, and names inside braces.
 ghost use mathlib.Core.Path.{_≡_};
 ghost use mathlib.Core.Bool.{true};
 ghost use Prim.Native.Nat.{_-_, _≤_};
 ghost use lib.ListN.{length};
-ghost use Rattle.rules.specs.Parse.{byteAt};
-ghost use Rattle.jsx.specs.Byte.{_‥_, letter, digit};
-ghost use Rattle.jsx.specs.Name.{opensName, inWord, inName, dashed, part as namePart};
+ghost use Rattle.rules.specs.Parse.{byteAt, codeAt};
+ghost use Rattle.jsx.specs.Byte.{letter, digit};
+ghost use Rattle.jsx.specs.Ranges.{continueRanges};
+ghost use Rattle.jsx.specs.Name.{opensName, inWord, opensPart, inPart, dashed, part as namePart};
 ghost use Rattle.jsx.specs.Word.{word};
 ghost use Rattle.lex.specs.Contract.{Leaf, Past, nothing, bytesFrom};
+ghost use Rattle.word.specs.Here.{nameByte, opensBeyond, commonWidth, partWidth, restOfPart};
+use identifier::ranges::CONTINUE;
 use lex::Ans;
 use lex::bytes::DASH;
 use lex::bytes::DOLLAR;
@@ -19,23 +22,19 @@ use lex::bytes::UPPER_A;
 use lex::bytes::UPPER_Z;
 use lex::bytes::ZERO;
 
-// From lo to hi, both included.
-pub fn within(b: u32, lo: u32, hi: u32) -> bool
-    ensures { λ r. ⌜ r ≡ (lo ‥ hi) b ⌝ }
-{
-    lo <= b && b <= hi
-}
+// The first byte beyond ASCII.
+const WIDE: u32 = 0x80;
 
 fn is_letter(b: u32) -> bool
     ensures { λ r. ⌜ r ≡ letter b ⌝ }
 {
-    within(b, LOWER_A, LOWER_Z) || within(b, UPPER_A, UPPER_Z)
+    lex::within(b, LOWER_A, LOWER_Z) || lex::within(b, UPPER_A, UPPER_Z)
 }
 
 pub fn is_digit(b: u32) -> bool
     ensures { λ r. ⌜ r ≡ digit b ⌝ }
 {
-    within(b, ZERO, NINE)
+    lex::within(b, ZERO, NINE)
 }
 
 pub fn opens_name(b: u32) -> bool
@@ -50,14 +49,127 @@ pub fn in_word(b: u32) -> bool
     opens_name(b) || is_digit(b)
 }
 
-pub fn in_name(b: u32) -> bool
-    ensures { λ r. ⌜ r ≡ inName b ⌝ }
+// A byte of ASCII in a part of a name.
+fn in_name(b: u32) -> bool
+    ensures { λ r. ⌜ r ≡ nameByte b ⌝ }
 {
     in_word(b) || b == DASH
 }
 
-// A part of a name, whose first byte was seen: its end.
-pub fn continue_lex_jsx_identifier(s: &[u8], at: usize) -> usize
+// Whether a character, by its code, opens a part of a name.
+fn opens_code(c: u32) -> bool
+    ensures { λ r. ⌜ r ≡ opensPart c ⌝ }
+{
+    if c < WIDE {
+        return opens_name(c);
+    }
+    identifier::is_identifier_start_unicode(c)
+}
+
+// Whether a character, by its code, may stand in a part of a name, by the table that is lent.
+fn in_code(c: u32, table: &[u32]) -> bool
+    requires { ⌜ now table ≡ continueRanges ⌝ }
+    ensures { λ r. ⌜ r ≡ inPart c ⌝ }
+{
+    if c < WIDE {
+        return in_name(c);
+    }
+    identifier::is_identifier_part_unicode(table, c)
+}
+
+// Whether a part of a name begins here with a character beyond ASCII.
+fn opens_beyond(s: &[u8], at: usize) -> bool
+    requires { ⌜ at ≤ length (now s) ⌝ }
+    ensures { λ r. ⌜ r ≡ opensBeyond (now (s .entry)) at ⌝ }
+{
+    if lex::byte(s, at) < WIDE {
+        return false;
+    }
+    opens_code(character::code_at(s, at))
+}
+
+// Whether a part of a name begins here.
+pub fn opens_part(s: &[u8], at: usize) -> bool
+    requires { ⌜ at ≤ length (now s) ⌝ }
+    ensures { λ r. ⌜ r ≡ opensPart (codeAt (now (s .entry)) at) ⌝ }
+{
+    opens_name(lex::byte(s, at)) || opens_beyond(s, at)
+}
+
+// How many bytes the character of a name has that stands here, if it is of ASCII or of a common script; else 0.
+fn common_width(s: &[u8], at: usize) -> usize
+    requires { ⌜ at ≤ length (now s) ⌝ }
+    ensures { λ r. ⌜ r ≡ commonWidth (now (s .entry)) at ⌝ }
+{
+    let b = lex::byte(s, at);
+    if b < WIDE {
+        return if in_name(b) { 1 } else { 0 };
+    }
+    if identifier::is_common(character::code_at(s, at)) {
+        return character::width(b);
+    }
+    0
+}
+
+// How many bytes the character of a name has that stands here, by the table that is lent; 0 where none does.
+fn part_width(s: &[u8], at: usize, table: &[u32]) -> usize
+    requires { ⌜ (at ≤ length (now s)) × (now table ≡ continueRanges) ⌝ }
+    ensures { λ r. ⌜ r ≡ partWidth (now (s .entry)) at ⌝ }
+{
+    let b = lex::byte(s, at);
+    if b < WIDE {
+        return if in_name(b) { 1 } else { 0 };
+    }
+    if in_code(character::code_at(s, at), table) {
+        return character::width(b);
+    }
+    0
+}
+
+// The end of a part from `at` within it on, by the table that is lent.
+fn end_by_table(s: &[u8], at: usize, table: &[u32]) -> usize
+    requires { ⌜ (at ≤ length (now s)) × (now table ≡ continueRanges) ⌝ }
+    ensures { λ r. ⌜ Past r (now (s .entry)) restOfPart at 0 ⌝ }
+{
+    let mut p = at;
+    loop {
+        let n = part_width(s, p, table);
+        if n == 0 {
+            return p;
+        }
+        p = p + n;
+    }
+}
+
+// The same; the table is written down here, for the whole of the part.
+fn end_of_rare(s: &[u8], at: usize) -> usize
+    requires { ⌜ at ≤ length (now s) ⌝ }
+    ensures { λ r. ⌜ Past r (now (s .entry)) restOfPart at 0 ⌝ }
+{
+    end_by_table(s, at, &CONTINUE)
+}
+
+// The end of a part from `at` within it on, where characters beyond ASCII may stand.
+fn end_beyond(s: &[u8], at: usize) -> usize
+    requires { ⌜ at ≤ length (now s) ⌝ }
+    ensures { λ r. ⌜ Past r (now (s .entry)) restOfPart at 0 ⌝ }
+{
+    let mut p = at;
+    loop {
+        let n = common_width(s, p);
+        if n == 0 {
+            break;
+        }
+        p = p + n;
+    }
+    if lex::byte(s, p) < WIDE {
+        return p;
+    }
+    end_of_rare(s, p)
+}
+
+// The end of a part whose first character, of ASCII, was seen.
+fn end_of_ascii(s: &[u8], at: usize) -> usize
     requires { ⌜ (at ≤ length (now s)) × (opensName (byteAt (now s) at) ≡ true) ⌝ }
     ensures { λ r. ⌜ Past r (now (s .entry)) namePart at 1 ⌝ }
 {
@@ -65,7 +177,22 @@ pub fn continue_lex_jsx_identifier(s: &[u8], at: usize) -> usize
     while in_name(lex::byte(s, p)) {
         p = p + 1;
     }
-    p
+    if lex::byte(s, p) < WIDE {
+        return p;
+    }
+    end_beyond(s, p)
+}
+
+// A part of a name, whose first character was seen: its end.
+pub fn continue_lex_jsx_identifier(s: &[u8], at: usize) -> usize
+    requires { ⌜ (at ≤ length (now s)) × (opensPart (codeAt (now s) at) ≡ true) ⌝ }
+    ensures { λ r. ⌜ Past r (now (s .entry)) namePart at 1 ⌝ }
+{
+    let b = lex::byte(s, at);
+    if b < WIDE {
+        return end_of_ascii(s, at);
+    }
+    end_beyond(s, at + character::width(b))
 }
 
 // A part of a name; the number is 0.
@@ -74,10 +201,12 @@ pub fn parse_jsx_identifier(s: &[u8], at: usize) -> Ans
     ensures { λ r. ⌜ Leaf nothing r (now (s .entry)) namePart at 1 ⌝ }
 {
     if opens_name(lex::byte(s, at)) {
-        Ans::Got(continue_lex_jsx_identifier(s, at), 0)
-    } else {
-        lex::unexpected(s, at)
+        return Ans::Got(end_of_ascii(s, at), 0);
     }
+    if opens_beyond(s, at) {
+        return Ans::Got(continue_lex_jsx_identifier(s, at), 0);
+    }
+    lex::unexpected(s, at)
 }
 
 // 1 where a dash is among the bytes from a to b, else 0.

@@ -8,8 +8,8 @@ byte-requires c κs = search deep-steps
 returns : tie.Need-returns
 returns c = search deep-steps
 
-opens-name-requires : tie.Need-opens-name-requires
-opens-name-requires c κs = search deep-steps
+opens-part-requires : tie.Need-opens-part-requires
+opens-part-requires c κs = search deep-steps
 
 returns-2 : tie.Need-returns-2
 returns-2 c = search deep-steps
@@ -23,4 +23,4 @@ returns-3 c = search deep-steps
 pub too-deep-spec : {M : Type 1} → statement M
 too-deep-spec =
     tie.close
-    (tie.spec byte-requires returns opens-name-requires returns-2 unexpected-requires returns-3)
+    (tie.spec byte-requires returns opens-part-requires returns-2 unexpected-requires returns-3)

@@ -1,54 +1,37 @@
-use Rattle.word.proofs.Asked.{asked}
-use Prim.Native.Nat.{_+_, _-_}
-use lib.ListN.{length}
-use Rattle.rules.specs.Rule.{stop, step, when}
-use Rattle.jsx.specs.Name.{inName}
-use Rattle.lex.proofs.Turns.{Turns}
 use Rattle.word.proofs.continue_lex_jsx_identifier.Statement.{statement}
 use Rattle.word.proofs.continue_lex_jsx_identifier.Tie as tie
-use Rattle.word.proofs.RunSteps.{run-steps}
+use Rattle.word.proofs.PartSteps.{part-steps}
+use Rattle.word.proofs.Asked.{asked}
 
-abbrev Inv-loop : tie.InvT-loop
-Inv-loop s at p₀ p = Turns s (when inName step stop) 0 (at + 1) p
-
-abbrev μ-loop : tie.MeasureT-loop
-μ-loop s at p₀ p = length s - p
-
-add-p : tie.Need-add-p Inv-loop μ-loop
-add-p c = search asked
-
-loop-holds : tie.Need-loop-holds Inv-loop μ-loop
-loop-holds c = search run-steps
-
-byte-requires : tie.Need-byte-requires Inv-loop μ-loop
+byte-requires : tie.Need-byte-requires
 byte-requires c κs = search asked
 
-in-name-requires : tie.Need-in-name-requires Inv-loop μ-loop
-in-name-requires c κs = search asked
+end-of-ascii-requires : tie.Need-end-of-ascii-requires
+end-of-ascii-requires c κs = search asked
 
-add-p-2 : tie.Need-add-p-2 Inv-loop μ-loop
-add-p-2 c = search asked
+returns : tie.Need-returns
+returns c = search part-steps
 
-loop-less : tie.Need-loop-less Inv-loop μ-loop
-loop-less c = search asked
+width-requires : tie.Need-width-requires
+width-requires c κs = search asked
 
-loop-again : tie.Need-loop-again Inv-loop μ-loop
-loop-again c = search run-steps
+add-end-beyond : tie.Need-add-end-beyond
+add-end-beyond c = search asked
 
-returns : tie.Need-returns Inv-loop μ-loop
-returns c = search run-steps
+end-beyond-requires : tie.Need-end-beyond-requires
+end-beyond-requires c κs = search asked
+
+returns-2 : tie.Need-returns-2
+returns-2 c = search part-steps
 
 pub continue-lex-jsx-identifier-spec : {M : Type 1} → statement M
 continue-lex-jsx-identifier-spec =
     tie.close
     (tie.spec
-    Inv-loop
-    μ-loop
-    add-p
-    loop-holds
     byte-requires
-    in-name-requires
-    add-p-2
-    loop-less
-    loop-again
-    returns)
+    end-of-ascii-requires
+    returns
+    width-requires
+    add-end-beyond
+    end-beyond-requires
+    returns-2)

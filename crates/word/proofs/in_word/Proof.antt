@@ -2,7 +2,7 @@ use Rattle.word.proofs.Asked.{asked}
 use Rattle.jsx.specs.Name.{inWord}
 use Rattle.word.proofs.in_word.Statement.{statement}
 use Rattle.word.proofs.in_word.Tie as tie
-use Rattle.word.proofs.TestSteps.{test-steps}
+use Rattle.lex.proofs.TestSteps.{test-steps}
 
 opens-name-requires : tie.Need-opens-name-requires
 opens-name-requires c κs = search asked

@@ -2,7 +2,7 @@ use Rattle.word.proofs.Asked.{asked}
 use Rattle.jsx.specs.Byte.{letter}
 use Rattle.word.proofs.is_letter.Statement.{statement}
 use Rattle.word.proofs.is_letter.Tie as tie
-use Rattle.word.proofs.TestSteps.{test-steps}
+use Rattle.lex.proofs.TestSteps.{test-steps}
 
 within-requires : tie.Need-within-requires
 within-requires c κs = search asked

@@ -2,7 +2,7 @@ use Rattle.word.proofs.Asked.{asked}
 use Rattle.jsx.specs.Name.{opensName}
 use Rattle.word.proofs.opens_name.Statement.{statement}
 use Rattle.word.proofs.opens_name.Tie as tie
-use Rattle.word.proofs.TestSteps.{test-steps}
+use Rattle.lex.proofs.TestSteps.{test-steps}
 
 is-letter-requires : tie.Need-is-letter-requires
 is-letter-requires c κs = search asked

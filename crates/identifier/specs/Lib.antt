@@ -1,0 +1,2 @@
+-- Letters for which no table is searched.
+pub mod Script

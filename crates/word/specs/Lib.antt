@@ -1,0 +1,2 @@
+-- A part of a name at a place.
+pub mod Here
