@@ -1,7 +1,7 @@
-use Rattle.batch.proofs.Steps.{answer-steps}
+use Rattle.many.proofs.Steps.{answer-steps}
 use borrow.Author.Needs.{needs}
-use Rattle.batch.proofs.answer.Statement.{statement}
-use Rattle.batch.proofs.answer.Tie as tie
+use Rattle.many.proofs.answer.Statement.{statement}
+use Rattle.many.proofs.answer.Tie as tie
 
 read-stage-requires : tie.Need-read-stage-requires
 read-stage-requires c κs = search needs

@@ -1,6 +1,6 @@
 use borrow.Author.Needs.{needs}
-use Rattle.batch.proofs.item_length.Statement.{statement}
-use Rattle.batch.proofs.item_length.Tie as tie
+use Rattle.many.proofs.item_length.Statement.{statement}
+use Rattle.many.proofs.item_length.Tie as tie
 
 element-copy-out-wide : tie.Need-element-copy-out-wide
 element-copy-out-wide c = search needs

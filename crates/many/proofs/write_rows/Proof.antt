@@ -2,9 +2,9 @@ use mathlib.Core.Path.{_≡_}
 use Prim.Native.Nat.{_-_, _≤_}
 use lib.ListN.{length}
 use Rattle.print.specs.Answer.{textRoom}
-use Rattle.batch.proofs.Steps.{front-asked}
-use Rattle.batch.proofs.write_rows.Statement.{statement}
-use Rattle.batch.proofs.write_rows.Tie as tie
+use Rattle.many.proofs.Steps.{front-asked}
+use Rattle.many.proofs.write_rows.Statement.{statement}
+use Rattle.many.proofs.write_rows.Tie as tie
 
 abbrev Inv-loop : tie.InvT-loop
 Inv-loop out₀ t m k₀ out k = (textRoom 1_024 ≤ length out) × (length out ≡ length out₀)

@@ -1,9 +1,9 @@
 use Prim.Native.Nat.{_≤_}
 use lib.ListN.{length}
 use mathlib.Core.Path.{_≡_}
-use Rattle.batch.proofs.Steps.{part-asked}
-use Rattle.batch.proofs.take_bytes.Statement.{statement}
-use Rattle.batch.proofs.take_bytes.Tie as tie
+use Rattle.many.proofs.Steps.{part-asked}
+use Rattle.many.proofs.take_bytes.Statement.{statement}
+use Rattle.many.proofs.take_bytes.Tie as tie
 
 abbrev Inv-loop : tie.InvT-loop
 Inv-loop item₀ n left₀ item left = (1 ≤ length item) × (length item ≡ length item₀)

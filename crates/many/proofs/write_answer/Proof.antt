@@ -1,6 +1,6 @@
-use Rattle.batch.proofs.Steps.{short-asked}
-use Rattle.batch.proofs.write_answer.Statement.{statement}
-use Rattle.batch.proofs.write_answer.Tie as tie
+use Rattle.many.proofs.Steps.{short-asked}
+use Rattle.many.proofs.write_answer.Statement.{statement}
+use Rattle.many.proofs.write_answer.Tie as tie
 
 enum-known-r : tie.Need-enum-known-r
 enum-known-r c = search short-asked

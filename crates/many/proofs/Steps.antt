@@ -21,7 +21,7 @@ use Rattle.stage.proofs.Demand2.{stage-writes, run-writes, reads-fit}
 use Rattle.put.specs.Text.{Prints}
 use Rattle.rules.specs.Record.{rowWords}
 use Rattle.print.specs.Answer.{Small, textRoom, most}
-use Rattle.batch.specs.Item.{reading}
+use Rattle.many.specs.Item.{reading}
 
 -- ---- the read of an item
 

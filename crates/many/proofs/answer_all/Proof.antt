@@ -3,9 +3,9 @@ use Prim.Native.Nat.{_*_, _-_, _≤_}
 use lib.ListN.{length}
 use Rattle.rules.specs.Record.{rowWords}
 use Rattle.print.specs.Answer.{textRoom}
-use Rattle.batch.proofs.Steps.{part-asked}
-use Rattle.batch.proofs.answer_all.Statement.{statement}
-use Rattle.batch.proofs.answer_all.Tie as tie
+use Rattle.many.proofs.Steps.{part-asked}
+use Rattle.many.proofs.answer_all.Statement.{statement}
+use Rattle.many.proofs.answer_all.Tie as tie
 
 abbrev Inv-loop : tie.InvT-loop
 Inv-loop item₀ t₀ out₀ k₀ item t out k =

@@ -1,7 +1,7 @@
-use Rattle.batch.proofs.Steps.{part-asked}
+use Rattle.many.proofs.Steps.{part-asked}
 use borrow.Author.Needs.{needs}
-use Rattle.batch.proofs.write_front.Statement.{statement}
-use Rattle.batch.proofs.write_front.Tie as tie
+use Rattle.many.proofs.write_front.Statement.{statement}
+use Rattle.many.proofs.write_front.Tie as tie
 
 slice-aggregate-write-all : tie.Need-slice-aggregate-write-all
 slice-aggregate-write-all c = search part-asked

@@ -1,6 +1,6 @@
-use Rattle.batch.proofs.Steps.{answer-asked}
-use Rattle.batch.proofs.answer_item.Statement.{statement}
-use Rattle.batch.proofs.answer_item.Tie as tie
+use Rattle.many.proofs.Steps.{answer-asked}
+use Rattle.many.proofs.answer_item.Statement.{statement}
+use Rattle.many.proofs.answer_item.Tie as tie
 
 write-answer-requires : tie.Need-write-answer-requires
 write-answer-requires c κs = search answer-asked
