@@ -371,7 +371,7 @@ fn turn(place: usize, how_many: usize) -> usize {
     (place % 8 + place / 8) % how_many
 }
 
-fn refused(refusal: Refusal) -> Answer {
+pub(crate) fn refused(refusal: Refusal) -> Answer {
     let Refusal { number, places } = refusal;
     Answer::Refused { number, places }
 }

@@ -68,19 +68,14 @@ pub fn is_line_terminator(character: char) -> bool {
     matches!(character, '\n' | '\r' | '\u{2028}' | '\u{2029}')
 }
 
-/// D: "a letter, `_` or `$`". A7: letters are the ASCII letters.
+/// D: "Names here: letters, digits, `_`, `$`, no leading digit" (in braces). A7: letters are the ASCII letters; D2:
+/// "Names in braces stay ASCII."
 pub fn begins_a_name(byte: u8) -> bool {
     byte.is_ascii_alphabetic() || byte == b'_' || byte == b'$'
 }
 
-/// D: "Names here: letters, digits, `_`, `$`" (in braces).
 pub fn continues_a_name(byte: u8) -> bool {
     begins_a_name(byte) || byte.is_ascii_digit()
-}
-
-/// D: "then letters, digits, `_`, `$`, `-`" (in tags).
-pub fn continues_a_part(byte: u8) -> bool {
-    continues_a_name(byte) || byte == b'-'
 }
 
 /// D: "the longest nonempty run without `<` `>` `{` `}`".
@@ -118,7 +113,6 @@ mod tests {
         let in_class = |f: fn(u8) -> bool| (0..=255u8).filter(|&b| f(b)).count();
         assert_eq!(in_class(begins_a_name), 54);
         assert_eq!(in_class(continues_a_name), 64);
-        assert_eq!(in_class(continues_a_part), 65);
         assert_eq!(in_class(is_text), 252);
         let characters = |f: fn(char) -> bool| ('\0'..=char::MAX).filter(|&c| f(c)).count();
         assert_eq!(characters(is_space_separator), 17);

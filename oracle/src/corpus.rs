@@ -2,11 +2,13 @@
 
 use crate::blanks;
 use crate::blocks;
+use crate::borders;
 use crate::cases::Case;
 use crate::deep;
 use crate::forms::case_form;
 use crate::named;
 use crate::random::Random;
+use crate::scripts;
 use crate::table::{records, Node};
 use crate::writer::{Plan, Writer};
 use crate::Reading::{self, Run, Stage};
@@ -17,6 +19,8 @@ use std::collections::BTreeMap;
 const PLANTED: [u32; 15] = [2, 3, 4, 5, 6, 7, 8, 9, 10, 11, 12, 13, 16, 17, 18];
 const VALID: usize = 240;
 const PLANTED_EACH: usize = 50;
+const VALID_OF_ANY_SCRIPT: u64 = 120;
+const PLANTED_OF_ANY_SCRIPT: usize = 30;
 const DAMAGED_EACH: usize = 176;
 const DEEP_WHOLE: usize = 126;
 const DEEP_TAILS: usize = 320;
@@ -93,15 +97,49 @@ pub fn corpus() -> Vec<Case> {
     cases
 }
 
-/// One input by its seed: valid, with a planted fault, some bytes, the same behind a beginning or behind one that
-/// leaves something open, blanks and tokens behind a beginning, a deep one's end, a long text, string or comment, or
-/// valid and then damaged, now and then by a long stretch put in.
+/// The corpus as it is stored: of the deep ones the stages alone, since a program of the gate may write 1,048,576
+/// bytes.
+pub fn stored() -> Vec<Case> {
+    let kept = |case: &Case| case.class != "deep" || case.reading == Stage;
+    corpus().into_iter().filter(kept).collect()
+}
+
+/// The second list: inputs for request 7. A program of the gate may write 1,048,576 bytes, and the first list has no
+/// room for them.
+pub fn borders() -> Vec<Case> {
+    let mut cases = Vec::new();
+    for named in named::of_request_7() {
+        both_readings(&mut cases, "named", &named.input);
+    }
+    for case in LAB_CASES.lines().filter_map(Case::of_line) {
+        cases.push(Case::answered(case.reading, "lab", case.input));
+    }
+    for known in borders::inputs().into_iter().chain(scripts::inputs()) {
+        let (reading, class) = (known.reading, known.class);
+        cases.push(known_case(reading, class, known.input, &known.answer));
+    }
+    for (class, reading, input) in borders::others().into_iter().chain(scripts::others()) {
+        cases.push(Case::answered(reading, class, input));
+    }
+    written_of_any_script(&mut cases);
+    cases
+}
+
+/// The lab's own cases of request 7. Its answers are there too; a test holds these against them.
+pub const LAB_CASES: &str = include_str!("../cases/names.txt");
+
+/// One input by its seed: with names of any script some one time in four; else valid, with a planted fault, some
+/// bytes, the same behind a beginning or behind one that leaves something open, blanks and tokens behind a beginning,
+/// a deep one's end, a long text, string or comment, or valid and then damaged, now and then by a long stretch put
+/// in.
 pub fn random(seed: u64) -> (Reading, Vec<u8>) {
     let mut random = Random::seeded(seed);
     let reading = if random.once_in(2) { Stage } else { Run };
+    let names_of_any_script = seed / 2 % 2 == 1;
     let bytes = match random.below(15) {
+        0 | 1 | 10.. if names_of_any_script => return of_any_script(&mut random, seed, reading),
         0 => write(seed, reading, None).bytes,
-        1 => return planted_by(&mut random, seed),
+        1 => return planted_by(&mut random, seed, Writer::new),
         2 => some_of(&mut random, &each_byte(MORE)),
         3 => behind_one_of(&mut random, &BEGINNINGS, &each_byte(MORE)),
         4 => behind_one_of(
@@ -131,15 +169,38 @@ pub fn random(seed: u64) -> (Reading, Vec<u8>) {
     (reading, bytes)
 }
 
+/// With names of any script: valid, with a planted fault, pieces of names behind a beginning, or valid and then
+/// damaged, most often in a name.
+fn of_any_script(random: &mut Random, seed: u64, reading: Reading) -> (Reading, Vec<u8>) {
+    let valid = || write_by(Writer::of_any_script(seed, None), reading).bytes;
+    match random.below(8) {
+        0 | 1 => (reading, valid()),
+        2 => planted_by(random, seed, Writer::of_any_script),
+        3 => (Stage, scripts::drawn_pieces(random)),
+        4 | 5 => (reading, scripts::renamed(random, &valid())),
+        _ => {
+            let (_, damage) = DAMAGES[random.below(DAMAGES.len())];
+            (reading, damage(random, &valid()))
+        }
+    }
+}
+
 /// Fewer chances are let pass where so many find no place for the fault; an input with no place for it at all is valid.
-fn planted_by(random: &mut Random, seed: u64) -> (Reading, Vec<u8>) {
+fn planted_by(
+    random: &mut Random,
+    seed: u64,
+    writer: fn(u64, Option<Plan>) -> Writer,
+) -> (Reading, Vec<u8>) {
     let number = PLANTED[random.below(PLANTED.len())];
     let (reading, mut chances) = match number {
         13 => (Stage, 0),
-        _ => (if seed % 2 == 0 { Stage } else { Run }, random.below(12)),
+        _ => (
+            if seed.is_multiple_of(2) { Stage } else { Run },
+            random.below(12),
+        ),
     };
     loop {
-        let written = write(seed, reading, Some(Plan { number, chances }));
+        let written = write_by(writer(seed, Some(Plan { number, chances })), reading);
         if written.planted.is_some() || chances == 0 {
             return (reading, written.bytes);
         }
@@ -200,7 +261,10 @@ struct Written {
 }
 
 fn write(seed: u64, reading: Reading, plan: Option<Plan>) -> Written {
-    let mut writer = Writer::new(seed, plan);
+    write_by(Writer::new(seed, plan), reading)
+}
+
+fn write_by(mut writer: Writer, reading: Reading) -> Written {
     let nodes = match reading {
         Stage => writer.stage(),
         Run => writer.run(),
@@ -248,7 +312,11 @@ fn valid(cases: &mut Vec<Case>) {
 }
 
 /// Inputs with one fault after a valid beginning; seeds where the fault found no place are passed over.
-fn written_with(number: u32, how_many: usize) -> Vec<(Reading, Written)> {
+fn written_with(
+    number: u32,
+    how_many: usize,
+    writer: fn(u64, Option<Plan>) -> Writer,
+) -> Vec<(Reading, Written)> {
     let mut all = Vec::new();
     let mut seed = 2_000_000 + 50_000 * u64::from(number);
     while all.len() < how_many {
@@ -259,7 +327,7 @@ fn written_with(number: u32, how_many: usize) -> Vec<(Reading, Written)> {
             Run
         };
         let chances = if number == 13 { 0 } else { chances };
-        let written = write(seed, reading, Some(Plan { number, chances }));
+        let written = write_by(writer(seed, Some(Plan { number, chances })), reading);
         if written.planted.is_some() {
             all.push((reading, written));
         }
@@ -271,7 +339,7 @@ fn written_with(number: u32, how_many: usize) -> Vec<(Reading, Written)> {
 fn planted(cases: &mut Vec<Case>) {
     for number in PLANTED {
         let class = format!("planted-{number}");
-        for (reading, written) in written_with(number, PLANTED_EACH) {
+        for (reading, written) in written_with(number, PLANTED_EACH, Writer::new) {
             cases.push(written.case(reading, &class));
         }
     }
@@ -303,6 +371,30 @@ fn damaged(cases: &mut Vec<Case>) {
                 class,
                 damage(&mut random, &written.bytes),
             ));
+        }
+    }
+}
+
+/// Written with names of any script: valid ones, planted faults, and damage to the valid ones.
+fn written_of_any_script(cases: &mut Vec<Case>) {
+    let reading = |seed: u64| if seed.is_multiple_of(2) { Stage } else { Run };
+    let valid = |seed: u64| write_by(Writer::of_any_script(seed, None), reading(seed));
+    let seeds = 12_000_000..12_000_000 + VALID_OF_ANY_SCRIPT;
+    for seed in seeds.clone() {
+        cases.push(valid(seed).case(reading(seed), "script-valid"));
+    }
+    for seed in seeds {
+        let mut random = Random::seeded(seed + 1_000_000);
+        let input = scripts::renamed(&mut random, &valid(seed).bytes);
+        cases.push(Case::answered(reading(seed), "script-renamed", input));
+        let (_, damage) = DAMAGES[seed as usize % DAMAGES.len()];
+        let input = damage(&mut random, &valid(seed).bytes);
+        cases.push(Case::answered(reading(seed), "script-damaged", input));
+    }
+    for number in PLANTED {
+        for (reading, written) in written_with(number, PLANTED_OF_ANY_SCRIPT, Writer::of_any_script)
+        {
+            cases.push(written.case(reading, "script-planted"));
         }
     }
 }
@@ -563,6 +655,7 @@ fn plain_stretches(cases: &mut Vec<Case>) {
 #[cfg(test)]
 mod tests {
     use super::*;
+    use crate::forms::program_form;
     use crate::table::{Record, ROW_WORDS};
 
     fn answer(reading: Reading, input: &[u8]) -> Answer {
@@ -594,15 +687,19 @@ mod tests {
             let (reading, written) = written_valid(number);
             assert!(written.planted.is_none());
             written.case(reading, "valid");
+            let writer = Writer::of_any_script(13_000_000 + number as u64, None);
+            write_by(writer, reading).case(reading, "valid");
         }
     }
 
     #[test]
     fn a_planted_fault_is_the_answer() {
-        for number in PLANTED {
-            for (reading, written) in written_with(number, 1_500) {
-                assert_eq!(written.planted.map(|refusal| refusal.number), Some(number));
-                written.case(reading, "planted");
+        for writer in [Writer::new, Writer::of_any_script] {
+            for number in PLANTED {
+                for (reading, written) in written_with(number, 1_500, writer) {
+                    assert_eq!(written.planted.map(|refusal| refusal.number), Some(number));
+                    written.case(reading, "planted");
+                }
             }
         }
     }
@@ -785,6 +882,17 @@ mod tests {
     fn the_readme_counts_the_classes() {
         let readme = include_str!("../README.md");
         assert!(readme.contains(&classes(&corpus())));
+        assert!(readme.contains(&classes(&borders())));
+    }
+
+    /// The kit takes 1,048,576 bytes of a program's standard output.
+    #[test]
+    fn both_lists_have_room() {
+        for (list, room) in [(stored(), 1_048_576), (borders(), 900_000)] {
+            let bytes = |case: &Case| program_form(&answer(case.reading, &case.input)).len();
+            let all: usize = list.iter().map(bytes).sum();
+            assert!(all < room, "{all}");
+        }
     }
 
     #[test]

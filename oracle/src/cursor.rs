@@ -78,6 +78,15 @@ impl<'a> Cursor<'a> {
         offset + rest.iter().take_while(|&&b| in_class(b)).count()
     }
 
+    /// The end of the longest run of characters from `offset` on that are in the class.
+    pub fn run_of_characters(&self, offset: usize, in_class: fn(char) -> bool) -> usize {
+        let mut end = offset;
+        while let Some(length) = character_of(&self.input[end..], in_class) {
+            end += length;
+        }
+        end
+    }
+
     /// Takes the token from here to `end`.
     pub fn take_to(&mut self, end: usize) {
         self.at = end;
@@ -131,7 +140,7 @@ impl<'a> Cursor<'a> {
     }
 
     /// The length of the character here, if it is in the class.
-    fn character(&self, in_class: fn(char) -> bool) -> Option<usize> {
+    pub fn character(&self, in_class: fn(char) -> bool) -> Option<usize> {
         character_of(&self.input[self.at..], in_class)
     }
 
@@ -152,8 +161,6 @@ impl<'a> Cursor<'a> {
     /// D2: "All four terminators end a `//` comment."; D: ".. or the end of input".
     /// 1.6: the terminator is then itself a blank; every other character is content. 1.7: none is refused.
     fn line_comment(&mut self) {
-        while let Some(length) = self.character(|character| !is_line_terminator(character)) {
-            self.at += length;
-        }
+        self.at = self.run_of_characters(self.at, |character| !is_line_terminator(character));
     }
 }

@@ -1,19 +1,23 @@
-//! The language of document 01, with requests 5, 3 and 1 of document 02, read a second time, from the documents alone.
+//! The language of document 01, with requests 5, 3, 1 and 7 of document 02, read a second time, from the documents
+//! alone.
 //!
 //! "D:" in the comments quotes document 01, "D2:" document 02; A1 to A28 are the readings of the first's open points,
-//! 5.1 to 5.9, 3.1 to 3.14 and 1.1 to 1.16 those of the requests'. Request 2 changes no answer.
+//! 5.1 to 5.9, 3.1 to 3.14, 1.1 to 1.16 and 7.1 to 7.17 those of the requests'. Request 2 changes no answer.
 //! The reader is plain recursive descent. It builds a tree of nodes; `table` numbers the tree
 //! into records. Nothing here is fast and nothing is shared with the code that is held against it.
 
 mod blanks;
 mod blocks;
+mod borders;
 mod bytes;
+mod characters;
 mod cursor;
 mod deep;
 mod expression;
 mod markup;
 mod names;
 mod random;
+mod scripts;
 mod table;
 mod writer;
 

@@ -6,7 +6,7 @@ use std::process::ExitCode;
 
 const USES: &str =
     "uses: oracle batch | oracle stage | oracle cases FILE | oracle corpus | oracle classes
-      oracle items | oracle random SEED COUNT | oracle against ITEMS";
+      oracle items | oracle borders | oracle random SEED COUNT | oracle against ITEMS";
 
 fn main() -> io::Result<ExitCode> {
     let words: Vec<String> = std::env::args().skip(1).collect();
@@ -17,7 +17,8 @@ fn main() -> io::Result<ExitCode> {
         ["cases", file] => return hold(file),
         ["corpus"] => write_corpus()?,
         ["classes"] => write_classes()?,
-        ["items"] => write_items(stored())?,
+        ["items"] => write_items(items_of(corpus::stored()))?,
+        ["borders"] => write_items(items_of(corpus::borders()))?,
         ["random", seed, count] => return write_random(seed, count),
         ["against", items] => return against(items),
         _ => {
@@ -56,16 +57,14 @@ fn write_corpus() -> io::Result<()> {
     output.flush()
 }
 
-/// The count of cases by class, as the rows of the table in README.md.
+/// The count of the corpus by class, then that of the second list, as the rows of the tables in README.md.
 fn write_classes() -> io::Result<()> {
-    io::stdout().write_all(corpus::classes(&corpus::corpus()).as_bytes())
+    let [first, second] = [corpus::corpus(), corpus::borders()].map(|list| corpus::classes(&list));
+    write!(io::stdout(), "{first}\n{second}")
 }
 
-/// The corpus, but of the deep ones the stages alone: a program of the gate may write 1,048,576 bytes.
-fn stored() -> impl Iterator<Item = (Reading, Vec<u8>)> {
-    let kept = |case: &cases::Case| case.class != "deep" || case.reading == Reading::Stage;
-    let cases = corpus::corpus().into_iter().filter(kept);
-    cases.map(|case| (case.reading, case.input))
+fn items_of(cases: Vec<cases::Case>) -> impl Iterator<Item = (Reading, Vec<u8>)> {
+    cases.into_iter().map(|case| (case.reading, case.input))
 }
 
 fn write_items(items: impl Iterator<Item = (Reading, Vec<u8>)>) -> io::Result<()> {

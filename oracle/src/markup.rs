@@ -1,6 +1,7 @@
 //! Elements, fragments, attributes and children.
 
-use crate::bytes::{begins_a_name, is_text};
+use crate::bytes::is_text;
+use crate::characters::begins_a_part;
 use crate::cursor::{Cursor, Stop};
 use crate::names::Name;
 use crate::table::{kind, Node};
@@ -42,14 +43,15 @@ impl Cursor<'_> {
     }
 
     /// The rest of an element or fragment; `<` and the blanks after it have been read.
-    /// D: "For `<` it is tested once a name or `>` is seen after it." A3: at the name's first byte.
+    /// D: "For `<` it is tested once a name or `>` is seen after it." A3, 7.14: at the name's first
+    /// character.
     fn element_or_fragment(&mut self, less_than: usize, depth: usize) -> Result<Node, Refusal> {
         match self.byte() {
             Some(b'>') => {
                 let inside = self.inside(depth, less_than)?;
                 self.fragment(less_than, inside)
             }
-            Some(byte) if begins_a_name(byte) => {
+            _ if self.character(begins_a_part).is_some() => {
                 let inside = self.inside(depth, less_than)?;
                 self.element(less_than, inside)
             }
@@ -133,7 +135,7 @@ impl Cursor<'_> {
             match self.byte() {
                 Some(b'/' | b'>') => return Ok(()),
                 Some(b'{') => holds.push(self.spread_attribute(depth)?),
-                Some(byte) if begins_a_name(byte) => holds.push(self.attribute(depth)?),
+                _ if self.character(begins_a_part).is_some() => holds.push(self.attribute(depth)?),
                 _ => return Err(self.no_allowed_token()),
             }
         }

@@ -296,7 +296,7 @@ const READINGS: &[Row] = &[
     ("A6", Stage, b"<a>{if", "no 3 4 4 0 0"),
     ("A6", Stage, b"<a>{iff", "no 4 7 7 0 0"),
     ("A7", Stage, b"<a>{1\xC3\xA9}</a>", "no 3 5 5 0 0"),
-    ("A7", Stage, b"<a\xC3\xA9/>", "no 3 2 2 0 0"),
+    ("A7, 7.7", Stage, b"<a\xC3\xA9/>", "ok 3"),
     ("A7", Stage, b"<a>{b\xC3\xA9}</a>", "no 3 5 5 0 0"),
     ("A8", Stage, b"<a>{\"b\\", "no 3 6 6 0 0"),
     ("A8", Stage, b"<a>{\"b\n", "no 3 4 6 0 0"),
@@ -409,8 +409,8 @@ const REQUEST_1: &[Row] = &[
     ("1.2: U+200B", Stage, b"<a\xE2\x80\x8B/>", "no 3 2 2 0 0"),
     ("1.2: U+180E", Stage, b"<a\xE1\xA0\x8E/>", "no 3 2 2 0 0"),
     ("1.2, 1.16: U+0085", Stage, b"<a\xC2\x85/>", "no 3 2 2 0 0"),
-    ("1.2: U+200C", Stage, b"<a\xE2\x80\x8C/>", "no 3 2 2 0 0"),
-    ("1.2: U+200D", Stage, b"<a\xE2\x80\x8D/>", "no 3 2 2 0 0"),
+    ("1.2, 7.5: U+200C", Stage, b"<a\xE2\x80\x8C/>", "ok 3"),
+    ("1.2, 7.5: U+200D", Stage, b"<a\xE2\x80\x8D/>", "ok 3"),
     ("1.2: U+200E", Stage, b"<a\xE2\x80\x8E/>", "no 3 2 2 0 0"),
     ("1.2: U+200F", Stage, b"<a\xE2\x80\x8F/>", "no 3 2 2 0 0"),
     ("1.2: U+2060", Stage, b"<a\xE2\x81\xA0/>", "no 3 2 2 0 0"),
@@ -451,6 +451,75 @@ const REQUEST_1: &[Row] = &[
     ("1.13", Stage, b"<a\xE2\x80", "no 2 2 2 0 0"),
     ("1.13", Stage, b"<a>\xE2\x80\xA8\xA8", "no 2 6 6 0 0"),
 ];
+
+/// 7.1 to 7.17, where they name an input that is not above.
+#[rustfmt::skip]
+const REQUEST_7: &[(&str, &str, &str)] = &[
+    ("7.1", "<\u{33479}/>", "ok 3"),
+    ("7.1", "<\u{3347A}/>", "no 3 1 1 0 0"),
+    ("7.2", "<1é/>", "no 3 1 1 0 0"),
+    ("7.2", "<-é/>", "no 3 1 1 0 0"),
+    ("7.2", "<$é/>", "ok 3"),
+    ("7.3", "<×/>", "no 3 1 1 0 0"),
+    ("7.3", "<a×/>", "no 3 2 2 0 0"),
+    ("7.3", "<\u{1F600}/>", "no 3 1 1 0 0"),
+    ("7.3", "<\u{E000}/>", "no 3 1 1 0 0"),
+    ("7.3", "<\u{378}/>", "no 3 1 1 0 0"),
+    ("7.4", "<\u{301}/>", "no 3 1 1 0 0"),
+    ("7.4", "<a \u{301}/>", "no 3 3 3 0 0"),
+    ("7.4", "<a.\u{301}/>", "no 3 3 3 0 0"),
+    ("7.4", "<a\u{301}/>", "ok 3"),
+    ("7.4", "<·/>", "no 3 1 1 0 0"),
+    ("7.4", "<a·/>", "ok 3"),
+    ("7.5", "<a\u{200C}\u{200D}/>", "ok 3"),
+    ("7.5", "<a-\u{200D}/>", "ok 3"),
+    ("7.5", "<\u{200D}/>", "no 3 1 1 0 0"),
+    ("7.6", "<a\u{2010}b/>", "no 3 2 2 0 0"),
+    ("7.6", "<a－/>", "no 3 2 2 0 0"),
+    ("7.6", "<a：b/>", "no 3 2 2 0 0"),
+    ("7.6", "<a．b/>", "no 3 2 2 0 0"),
+    ("7.7", "<한/>", "ok 3"),
+    ("7.7", "<é-/>", "ok 3"),
+    ("7.7", "<Aé/>", "ok 3"),
+    ("7.8", "<thisé/>", "ok 3"),
+    ("7.8", "<this\u{200D}/>", "ok 3"),
+    ("7.8", "<this\u{301}.b/>", "ok 5"),
+    ("7.9", "<é.b/>", "ok 5"),
+    ("7.9", "<é-a.b/>", "ok 5"),
+    ("7.9", "<é:한/>", "ok 5"),
+    ("7.9", "<a.é-/>", "no 10 3 6 0 0"),
+    ("7.10", "<é></e\u{301}>", "no 7 1 3 6 9"),
+    ("7.10", "<\u{212B}></\u{C5}>", "no 7 1 4 7 9"),
+    ("7.10", "<a></a\u{200D}>", "no 7 1 2 5 9"),
+    ("7.11", "<a>{é}</a>", "no 3 4 4 0 0"),
+    ("7.11", "<a>{aé}</a>", "no 3 5 5 0 0"),
+    ("7.11", "<a>{a.é}</a>", "no 3 6 6 0 0"),
+    ("7.11", "<a>{<é λ={b}/>}</a>", "ok 14"),
+    ("7.12", "<a>{1é}</a>", "no 3 5 5 0 0"),
+    ("7.12", "<a>{ifé}</a>", "no 3 4 4 0 0"),
+    ("7.13", "<a b='c'é/>", "ok 8"),
+    ("7.13", "<a {...b}é/>", "ok 7"),
+    ("7.13", "<a b='c'\u{301}/>", "no 3 8 8 0 0"),
+    ("7.15", "<\\u0061/>", "no 3 1 1 0 0"),
+    ("7.15", "<a\\u0061/>", "no 3 2 2 0 0"),
+    ("7.16", "<é", "no 4 3 3 0 0"),
+    ("7.16", "<a></é", "no 4 7 7 0 0"),
+    ("7.17", "<\u{A0}é\u{A0}/>", "ok 3"),
+    ("7.17", "<é\u{2028}é/>", "ok 5"),
+];
+
+/// The inputs that the readings of request 7 name. They are in the second list.
+pub fn of_request_7() -> Vec<Named> {
+    let of = |&(source, input, expected): &(&'static str, &str, &str)| {
+        of_text(source, input.to_string(), expected)
+    };
+    let mut all: Vec<Named> = REQUEST_7.iter().map(of).collect();
+    all.push(of_row(&("7.16", Stage, b"<\xC3", "no 2 1 1 0 0")));
+    let deep = |tail: &str| format!("{}{tail}", "<a>".repeat(64));
+    all.push(of_text("7.14", deep("<é"), "no 14 192 192 0 0"));
+    all.push(of_text("7.14", deep("<\u{301}"), "no 3 193 193 0 0"));
+    all
+}
 
 /// The 38 reserved words of ECMA-262.
 pub const RESERVED_WORDS: &str = "await break case catch class const continue debugger default \

@@ -1,6 +1,6 @@
 //! Names in tags.
 
-use crate::bytes::{begins_a_name, continues_a_part};
+use crate::characters::{begins_a_part, continues_a_part};
 use crate::cursor::Cursor;
 use crate::table::{kind, Node};
 use crate::Refusal;
@@ -28,14 +28,15 @@ impl Name {
 }
 
 impl Cursor<'_> {
-    /// D: "Name part: a letter, `_` or `$`, then letters, digits, `_`, `$`, `-`." Blanks may stand before it.
+    /// D2: "Name parts take ID_Start, `$` and `_` first, then ID_Continue, `$`, U+200C, U+200D and `-`". Blanks may
+    /// stand before it. 7.3: a character that fits nowhere is 3 at its first byte.
     fn name_part(&mut self) -> Result<Span, Refusal> {
         self.blanks()?;
-        if !self.byte().is_some_and(begins_a_name) {
-            return Err(self.no_allowed_token());
-        }
         let start = self.at;
-        self.take_to(self.run_of(start, continues_a_part));
+        let Some(first) = self.character(begins_a_part) else {
+            return Err(self.no_allowed_token());
+        };
+        self.take_to(self.run_of_characters(start + first, continues_a_part));
         Ok((start, self.at))
     }
 
@@ -99,7 +100,7 @@ impl Cursor<'_> {
         self.bytes_of(part).contains(&b'-')
     }
 
-    /// D: "Closing names are equal part for part, with the same form; blanks don't count."
+    /// D: "Closing names are equal part for part, with the same form; blanks don't count." 7.10: byte for byte.
     pub fn equal_names(&self, one: &Name, other: &Name) -> bool {
         one.form == other.form
             && one.parts.len() == other.parts.len()
@@ -128,10 +129,11 @@ impl Cursor<'_> {
     }
 
     /// D: "One-part names: with no dash and a first byte A-Z, `_` or `$`, a reference; else `this`,
-    /// exactly, is This; else an identifier."
+    /// exactly, is This; else an identifier." D2: "A first character beyond ASCII makes a dashless one-part name a
+    /// reference."
     fn one_part_node(&self, part: Span) -> Node {
         let bytes = self.bytes_of(part);
-        let refers = matches!(bytes[0], b'A'..=b'Z' | b'_' | b'$') && !self.has_dash(part);
+        let refers = matches!(bytes[0], b'A'..=b'Z' | b'_' | b'$' | 0x80..) && !self.has_dash(part);
         if refers {
             self.part_node(kind::REFERENCE, part)
         } else if bytes == b"this" {

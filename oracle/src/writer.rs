@@ -3,6 +3,7 @@
 
 use crate::blanks::BLANKS_BEYOND_ASCII;
 use crate::random::Random;
+use crate::scripts;
 use crate::table::{kind, Node};
 use crate::Refusal;
 
@@ -96,7 +97,7 @@ const LINE_COMMENTS: [&str; 8] = [
 ];
 /// No allowed token begins with one of these, in tags or in braces; the last four are next to blanks and are none.
 const NO_TOKENS: [&str; 10] = [
-    "@", "#", "\\", "`", "é", ";", "\u{85}", "\u{180E}", "\u{200B}", "\u{2060}",
+    "@", "#", "\\", "`", "×", ";", "\u{85}", "\u{180E}", "\u{200B}", "\u{2060}",
 ];
 /// What isn't UTF-8 where an ASCII byte or nothing follows: a byte that leads nothing, and blanks cut in their bytes.
 const NOT_UTF8: [&[u8]; 7] = [
@@ -123,6 +124,10 @@ pub(crate) struct Writer {
     pieces: usize,
     /// Where blanks may stand, they are thought of once in so many times.
     blanks_once_in: usize,
+    /// Whether half of the names in tags are of any script.
+    any_script: bool,
+    /// Where the last name in a tag ended.
+    name_end: usize,
     plan: Option<Plan>,
     /// The refusal that the planted fault must give.
     pub planted: Option<Refusal>,
@@ -140,9 +145,18 @@ impl Writer {
             bytes: Vec::new(),
             pieces,
             blanks_once_in,
+            any_script: false,
+            name_end: 0,
             plan,
             planted: None,
             cut: None,
+        }
+    }
+
+    pub fn of_any_script(seed: u64, plan: Option<Plan>) -> Writer {
+        Writer {
+            any_script: true,
+            ..Writer::new(seed, plan)
         }
     }
 
@@ -264,7 +278,10 @@ impl Writer {
             let line_end = self.random.one_of(&["\u{2028}", "\u{2029}"]);
             self.raw(line_end);
         }
-        let bad = self.random.one_of(&NO_TOKENS);
+        let bad = match self.any_script && self.random.once_in(2) {
+            true => self.random.one_of(&scripts::IN_NO_NAME),
+            false => self.random.one_of(&NO_TOKENS),
+        };
         self.bad_bytes(bad);
     }
 
@@ -415,18 +432,26 @@ impl Writer {
 
     /// The parts of a name with the `:` or `.` between them.
     fn some_parts(&mut self) -> Vec<String> {
-        let mut parts = vec![self.random.one_of(&NAMES).to_string()];
+        let mut parts = vec![self.a_part(&NAMES)];
         match self.random.below(6) {
-            0 => parts.extend([":".to_string(), self.random.one_of(&NAMES).to_string()]),
+            0 => parts.extend([":".to_string(), self.a_part(&NAMES)]),
             1 => {
                 for _ in 0..=self.random.below(3) {
-                    let part = self.random.one_of(&PARTS_AFTER_A_DOT).to_string();
+                    let part = self.a_part(&PARTS_AFTER_A_DOT).replace('-', "_");
                     parts.extend([".".to_string(), part]);
                 }
             }
             _ => {}
         }
         parts
+    }
+
+    /// One of these or, where the names are so, one of any script.
+    fn a_part(&mut self, plain: &[&str]) -> String {
+        match self.any_script && self.random.once_in(2) {
+            true => scripts::drawn_part(&mut self.random),
+            false => self.random.one_of(plain).to_string(),
+        }
     }
 
     /// Another name: another part, one part more or fewer, or the other form.
@@ -440,7 +465,10 @@ impl Writer {
             }
             _ => {
                 let last = other.len() - 1;
-                other[last] += "Z";
+                other[last] += match self.any_script {
+                    true => self.random.one_of(&["\u{200D}", "\u{301}", "é", "Z"]),
+                    false => "Z",
+                };
             }
         }
         // A dash after a dot would be refused sooner.
@@ -466,6 +494,7 @@ impl Writer {
             let start = self.token(part);
             let kind = self.kind_of_part(part, number, parts);
             nodes.push(self.part(kind, start, part));
+            self.name_end = self.end();
         }
         if parts.len() == 1 {
             return nodes.remove(0);
@@ -481,19 +510,22 @@ impl Writer {
     fn dashed_part(&mut self) {
         self.blanks();
         let start = self.end();
-        let part = self.random.one_of(&DASHED);
-        self.raw(part);
+        let mut part = self.a_part(&DASHED);
+        if !part.contains('-') {
+            part.push('-');
+        }
+        self.raw(&part);
         self.refusal(10, (start, self.end()), (0, 0));
         self.raw(" ");
     }
 
     fn kind_of_part(&self, part: &str, number: usize, parts: &[String]) -> u32 {
-        let capital = part.starts_with(|c: char| c.is_ascii_uppercase() || c == '_' || c == '$');
+        let refers = |c: char| c.is_ascii_uppercase() || c == '_' || c == '$' || !c.is_ascii();
         let joined_by = parts.get(1).map_or("", String::as_str);
         match (number, joined_by) {
             (0, "." | "") if part == "this" => kind::THIS,
             (0, ".") => kind::REFERENCE,
-            (0, "") if capital && !part.contains('-') => kind::REFERENCE,
+            (0, "") if part.starts_with(refers) && !part.contains('-') => kind::REFERENCE,
             (0, "") => kind::IDENTIFIER,
             _ => kind::OTHER_PART,
         }
@@ -528,21 +560,22 @@ impl Writer {
     /// A name right after a name needs a blank between.
     fn attribute_name(&mut self) -> Node {
         self.blanks();
-        let last = self.bytes[self.end() - 1];
-        if last.is_ascii_alphanumeric() || b"_$-".contains(&last) {
+        if self.end() == self.name_end {
             self.one_blank();
         }
         self.fault_before_a_token();
-        let first = self.random.one_of(&NAMES);
-        let start = self.raw(first);
-        let first = self.part(kind::OTHER_PART, start, first);
+        let first = self.a_part(&NAMES);
+        let start = self.raw(&first);
+        self.name_end = self.end();
+        let first = self.part(kind::OTHER_PART, start, &first);
         if !self.random.once_in(5) {
             return first;
         }
         self.token(":");
-        let second = self.random.one_of(&NAMES);
-        let start_of_second = self.token(second);
-        let second = self.part(kind::OTHER_PART, start_of_second, second);
+        let second = self.a_part(&NAMES);
+        let start_of_second = self.token(&second);
+        self.name_end = self.end();
+        let second = self.part(kind::OTHER_PART, start_of_second, &second);
         Node::holding(kind::NAMESPACED, start, self.end(), vec![first, second])
     }
 

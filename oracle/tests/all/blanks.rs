@@ -14,8 +14,8 @@ fn blanks() -> Vec<char> {
     all
 }
 
-/// 1.2, 1.16.
-const NO_BLANKS: &str = "\u{85}\u{180E}\u{200B}\u{200C}\u{200D}\u{200E}\u{200F}\u{2060}\u{AD}";
+/// 1.2, 1.16; but for U+200C and U+200D, which belong to a name that they stand behind (7.5).
+const NO_BLANKS: &str = "\u{85}\u{180E}\u{200B}\u{200E}\u{200F}\u{2060}\u{AD}";
 
 const LINE_TERMINATORS: [char; 4] = ['\n', '\r', '\u{2028}', '\u{2029}'];
 

@@ -5,6 +5,7 @@ mod blocks;
 mod depths;
 mod limits;
 mod named;
+mod names;
 mod never_closed;
 mod program;
 mod tables;

@@ -6,7 +6,7 @@ use oracle::{named, read, Limits};
 #[test]
 fn named_inputs_have_their_answers() {
     let mut wrong = Vec::new();
-    for case in named::named() {
+    for case in named::named().into_iter().chain(named::of_request_7()) {
         let answer = program_form(&read(&case.input, case.reading, Limits::default()));
         let first_line = answer.lines().next().unwrap_or("").to_string();
         if first_line != case.expected {

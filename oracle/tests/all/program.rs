@@ -228,3 +228,36 @@ fn random_items_have_long_plain_stretches() {
         assert!(count * 500 > items, "{what:?}: {count} of {items}");
     }
 }
+
+/// Request 7: one item in four is made with names of any script. Of these some are accepted with a name beyond ASCII,
+/// some are refused at a character beyond ASCII, and some by another closing name.
+#[test]
+fn random_items_have_names_beyond_ascii() {
+    use oracle::{kind, Answer, Limits};
+    let items = 10_000;
+    let mut met = [0; 3];
+    for (reading, bytes) in (0..items).map(oracle::corpus::random) {
+        let beyond = |place: usize| bytes.get(place).is_some_and(|byte| !byte.is_ascii());
+        match oracle::read(&bytes, reading, Limits::default()) {
+            Answer::Accepted(records) => {
+                let names = [kind::REFERENCE, kind::IDENTIFIER, kind::OTHER_PART];
+                let named = |r: &oracle::Record| {
+                    let part = &bytes[r.start as usize..r.end as usize];
+                    names.contains(&r.kind) && !part.is_ascii()
+                };
+                met[0] += usize::from(records.iter().any(named));
+            }
+            Answer::Refused { number: 3, places } => met[1] += usize::from(beyond(places[0])),
+            Answer::Refused { number: 7, places } => {
+                let differ = !bytes[places[2]..places[3]].is_ascii();
+                met[2] += usize::from(differ);
+            }
+            _ => {}
+        }
+    }
+    assert!(met[0] * 25 > items as usize, "{met:?}");
+    assert!(
+        met[1] * 20 > items as usize && met[2] * 400 > items as usize,
+        "{met:?}"
+    );
+}
