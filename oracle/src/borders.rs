@@ -27,7 +27,8 @@ const BEFORE_A_PART: [&str; 13] = [
 ];
 
 /// Beginnings that end inside a name part.
-const INSIDE_A_PART: [&str; 13] = [
+const INSIDE_A_PART: [&str; 14] = [
+    "<a",
     "<a-",
     "<a b",
     "<a b:c",
@@ -80,15 +81,14 @@ pub(crate) fn inputs() -> Vec<Known> {
     let mut all = Vec::new();
     for character in points().into_iter().filter(|c| !c.is_ascii()) {
         all.push(first("border-first", "<", character));
-        all.push(later("border-later", "<a", character));
+        all.push(later_in_a_member("border-later", character));
         if is_blank(character) {
-            all.push(blank_in_a_member("<a.", character));
-            all.push(blank_in_a_member("<a.b", character));
+            all.push(blank_in_a_member(character));
         }
     }
     for character in OF_VERSIONS.map(character) {
         all.push(first("border-version", "<", character));
-        all.push(later("border-version", "<a", character));
+        all.push(later_in_a_member("border-version", character));
     }
     for (number, character) in turns().into_iter().enumerate() {
         let beginning = BEFORE_A_PART[number % BEFORE_A_PART.len()];
@@ -184,9 +184,28 @@ fn later(class: &'static str, beginning: &str, character: char) -> Known {
     known(class, beginning, character, is_read)
 }
 
-/// A blank is read where a name character would be: a dash behind it is 3, and would be 10 in a part behind a dot.
-fn blank_in_a_member(beginning: &str, blank: char) -> Known {
-    let input = format!("{beginning}{blank}-").into_bytes();
+/// A part behind a dot that holds a dash is 10, from its start to its end: what ends the part tells from what is in it,
+/// also where it begins an attribute or is a blank.
+fn later_in_a_member(class: &'static str, character: char) -> Known {
+    let input = format!("<a.b{character}-").into_bytes();
+    let refusal = if continues_a_part(character) {
+        Refusal::over(10, (3, input.len()))
+    } else if is_blank(character) {
+        Refusal::at(3, input.len() - 1)
+    } else {
+        Refusal::at(3, 4)
+    };
+    Known {
+        class,
+        reading: Stage,
+        input,
+        answer: refused(refusal),
+    }
+}
+
+/// The same of a first character: the dash behind a blank is 3.
+fn blank_in_a_member(blank: char) -> Known {
+    let input = format!("<a.{blank}-").into_bytes();
     Known {
         class: "border-blank",
         reading: Stage,

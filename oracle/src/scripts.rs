@@ -66,15 +66,16 @@ const BY_WIDTH: [[char; 5]; 4] = [
 const STOPS: [&str; 4] = ["×", "\u{2010}", "😀", "!"];
 
 /// Names that a reader might take for the same one (7.10): composed and not, one sign twice in Unicode, in another
-/// case, with and without a character that isn't shown, in another order.
+/// case, with and without a character that isn't shown, in another order, by the low seven bits.
 #[rustfmt::skip]
-const LIKE_EACH_OTHER: [(&str, &str); 24] = [
+const LIKE_EACH_OTHER: [(&str, &str); 26] = [
     ("é", "e\u{301}"), ("Å", "\u{212B}"), ("Å", "A\u{30A}"), ("Ω", "\u{2126}"), ("K", "\u{212A}"),
     ("한", "\u{1112}\u{1161}\u{11AB}"), ("が", "か\u{3099}"), ("神", "\u{FA19}"),
     ("a", "a\u{200D}"), ("a", "a\u{200C}"), ("a\u{200C}", "a\u{200D}"), ("a\u{200D}b", "ab"),
     ("क\u{94D}ष", "क\u{94D}\u{200D}ष"), ("a", "a\u{FE0F}"), ("a", "a\u{E0100}"),
     ("é", "É"), ("ς", "σ"), ("ß", "ss"), ("ı", "i"), ("𐐀", "𐐨"),
     ("ａ", "a"), ("ﬁ", "fi"), ("ο", "o"), ("q\u{323}\u{307}", "q\u{307}\u{323}"),
+    ("ä", "C$"), ("ð", "C0"),
 ];
 
 /// An opening and a closing tag with these two names, `1` and `2`, and what is refused behind them where they are
