@@ -11,6 +11,10 @@ pub const BLANKS: [char; 25] = [
 /// So many of them, the first ones, are ASCII.
 pub const ASCII_BLANKS: usize = 6;
 
+/// Characters that look like blanks and are none: those that docs/DIFFERENCES.md lists under request 1, since the Rust
+/// may take them.
+pub const NEAR_MISSES: [char; 4] = ['\u{85}', '\u{180E}', '\u{200B}', '\u{2060}'];
+
 /// D2: "All four terminators end a `//` comment."
 const LINE_TERMINATORS: [char; 4] = ['\n', '\r', '\u{2028}', '\u{2029}'];
 
@@ -20,6 +24,11 @@ pub fn blank_length(bytes: &[u8]) -> usize {
         Some(character) if BLANKS.contains(&character) => character.len_utf8(),
         _ => 0,
     }
+}
+
+/// Whether the bytes begin with a near miss.
+pub fn nearly_blank(bytes: &[u8]) -> bool {
+    first(bytes).is_some_and(|character| NEAR_MISSES.contains(&character))
 }
 
 /// Whether the bytes begin with a line terminator.
@@ -67,6 +76,14 @@ mod tests {
     }
 
     #[test]
+    fn no_near_miss_is_a_blank() {
+        let near = |character: &char| nearly_blank(character.to_string().as_bytes());
+        let found: Vec<char> = ('\0'..=char::MAX).filter(near).collect();
+        assert_eq!(found, NEAR_MISSES);
+        assert!(!BLANKS.iter().any(|blank| NEAR_MISSES.contains(blank)));
+    }
+
+    #[test]
     fn four_characters_end_a_line() {
         let ends = |character: &char| ends_line(character.to_string().as_bytes());
         let found: Vec<char> = ('\0'..=char::MAX).filter(ends).collect();
@@ -84,7 +101,7 @@ mod tests {
             b"\xFF ",
         ] {
             assert_eq!(blank_length(bytes), 0, "{bytes:?}");
-            assert!(!ends_line(bytes));
+            assert!(!ends_line(bytes) && !nearly_blank(bytes));
         }
     }
 }

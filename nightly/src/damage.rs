@@ -1,7 +1,8 @@
 //! Items made of recorded stages: as they are, or damaged as a bad line or a caption editor damages them.
 
-use crate::blank::{blank_length, ASCII_BLANKS, BLANKS};
+use crate::blank::{blank_length, ASCII_BLANKS, BLANKS, NEAR_MISSES};
 use crate::item::{Item, Reading};
+use crate::name::{border, words};
 use crate::random::Random;
 use crate::stages::{Stage, Stages};
 
@@ -18,8 +19,12 @@ const LINE_ENDS: [&[u8]; 3] = [b"\n", b"\r", b"\r\n"];
 const OPENERS: [&[u8]; 3] = [b"\"", b"'", b"/*"];
 /// What a caption editor pastes most; any blank beyond ASCII may come instead.
 const OFTEN_PASTED: [char; 4] = ['\u{A0}', '\u{FEFF}', '\u{2028}', '\u{2029}'];
-/// Characters that look like blanks and are none.
-const NEAR_MISSES: [char; 4] = ['\u{85}', '\u{180E}', '\u{200B}', '\u{2060}'];
+/// What comes into names where it is no border of a range: letters of partners, characters that only go on with a name,
+/// and signs like a dash, a colon and a dot, which no name has.
+const PUT_IN_NAMES: [char; 16] = [
+    '한', '국', 'λ', 'Ω', 'é', '𐐀', '\u{301}', '\u{200C}', '\u{200D}', '·', '٣', '\u{2010}', '－',
+    '：', '．', '×',
+];
 
 #[derive(Clone, Copy, PartialEq, Eq, Debug)]
 pub enum Damage {
@@ -33,11 +38,12 @@ pub enum Damage {
     SplicedWithin,
     LeftOpen,
     Pasted,
+    Renamed,
     Composed,
 }
 
-/// How often each is drawn: in so many of 24 items.
-const SHARES: [(Damage, usize); 11] = [
+/// How often each is drawn: in so many of 26 items.
+const SHARES: [(Damage, usize); 12] = [
     (Damage::None, 1),
     (Damage::PacketLost, 3),
     (Damage::BytesLost, 3),
@@ -48,11 +54,12 @@ const SHARES: [(Damage, usize); 11] = [
     (Damage::SplicedWithin, 1),
     (Damage::LeftOpen, 2),
     (Damage::Pasted, 2),
+    (Damage::Renamed, 2),
     (Damage::Composed, 2),
 ];
 
 /// What a composed damage is made of.
-const SINGLE: [Damage; 9] = [
+const SINGLE: [Damage; 10] = [
     Damage::PacketLost,
     Damage::BytesLost,
     Damage::BitsFlipped,
@@ -62,6 +69,7 @@ const SINGLE: [Damage; 9] = [
     Damage::SplicedWithin,
     Damage::LeftOpen,
     Damage::Pasted,
+    Damage::Renamed,
 ];
 
 impl Damage {
@@ -77,6 +85,7 @@ impl Damage {
             Damage::SplicedWithin => "spliced-within",
             Damage::LeftOpen => "left-open",
             Damage::Pasted => "pasted",
+            Damage::Renamed => "renamed",
             Damage::Composed => "composed",
         }
     }
@@ -139,6 +148,7 @@ fn damaged(bytes: &[u8], damage: Damage, stages: &Stages, random: &mut Random) -
         Damage::SplicedWithin => spliced(bytes, bytes, random),
         Damage::LeftOpen => left_open(bytes, random),
         Damage::Pasted => pasted(bytes, random),
+        Damage::Renamed => renamed(bytes, random),
         Damage::Composed => composed(bytes, stages, random),
     }
 }
@@ -263,6 +273,44 @@ fn borders(bytes: &[u8]) -> Vec<(usize, usize)> {
     };
     let places = (0..=bytes.len()).filter(is_border);
     places.map(|at| (at, at)).collect()
+}
+
+/// From 1 to 4 times, a character beyond ASCII comes in place of one of a word, or beside it; half of the time in every
+/// word that is the same, so that opening and closing names stay equal.
+fn renamed(bytes: &[u8], random: &mut Random) -> Vec<u8> {
+    let mut bytes = bytes.to_vec();
+    for _ in 0..random.within(1, 4) {
+        let words = words(&bytes);
+        if words.is_empty() {
+            continue;
+        }
+        let word = *random.one_of(&words);
+        let new = changed_word(&bytes[word.0..word.1], random);
+        let old = bytes[word.0..word.1].to_vec();
+        let all = random.once_in(2);
+        for (start, end) in words.into_iter().rev() {
+            if (start, end) == word || all && bytes[start..end] == old {
+                bytes.splice(start..end, new.iter().copied());
+            }
+        }
+    }
+    bytes
+}
+
+/// The word with a new character: as likely its first one as any.
+fn changed_word(word: &[u8], random: &mut Random) -> Vec<u8> {
+    let mut characters: Vec<char> = String::from_utf8_lossy(word).chars().collect();
+    let at = match random.once_in(2) {
+        true => 0,
+        false => random.below(characters.len()),
+    };
+    let new = match random.once_in(2) {
+        true => border(random),
+        false => *random.one_of(&PUT_IN_NAMES),
+    };
+    let taken = random.below(2);
+    characters.splice(at..at + taken, [new]);
+    characters.into_iter().collect::<String>().into_bytes()
 }
 
 /// Two or three damages, one after the other.
@@ -414,6 +462,36 @@ mod tests {
             assert_eq!(kept, "<abc=''//x/>");
             assert!(text.contains("ab"), "{text:?}");
         }
+    }
+
+    fn all_renamed(text: &str, count: u64) -> Vec<String> {
+        let one = |number| renamed(text.as_bytes(), &mut Random::of_item(SEED, number));
+        let text = |bytes| String::from_utf8(bytes).expect("no character is cut");
+        (0..count).map(one).map(text).collect()
+    }
+
+    #[test]
+    fn a_character_of_a_name_becomes_another() {
+        let all = all_renamed("<ab></ab>", 20_000);
+        for wanted in [
+            "<한b></한b>",
+            "<한b></ab>",
+            "<ab></λab>",
+            "<a\u{200D}></a\u{200D}>",
+            "<a－b></ab>",
+        ] {
+            assert!(all.iter().any(|text| text == wanted), "{wanted:?}");
+        }
+        let marks = |text: &str| text.matches(['<', '>', '/']).collect::<String>();
+        assert!(all.iter().all(|text| marks(text) == "<></>"));
+    }
+
+    #[test]
+    fn nothing_is_too_short_for_a_new_name() {
+        assert_eq!(all_renamed("< />", 1), ["< />"]);
+        assert!(all_renamed("é", 50).iter().any(|text| text != "é"));
+        let cut = renamed(b"<\xE2\x80", &mut Random::of_item(SEED, 0));
+        assert!(cut.starts_with(b"<"));
     }
 
     #[test]

@@ -97,19 +97,21 @@ fn said(refusal: &Refusal) -> String {
     }
 }
 
-/// A 3 says little without the byte that it was given at.
+/// A 3 says little without the byte that it was given at. Characters beyond ASCII are of one class: another version of
+/// Unicode makes a difference at thousands of them.
 fn at_byte(item: &Item, refusal: &Refusal) -> String {
     if let Refusal::Told(3, [place, ..]) = refusal {
-        let byte = item.bytes.get(*place as usize);
-        let shown = byte.map_or("the end".to_string(), |byte| {
-            byte.escape_ascii().to_string()
-        });
+        let shown = match item.bytes.get(*place as usize) {
+            None => "the end".to_string(),
+            Some(byte) if byte.is_ascii() => byte.escape_ascii().to_string(),
+            Some(_) => "a character beyond ASCII".to_string(),
+        };
         return format!("refuses by 3 at {shown}");
     }
     said(refusal)
 }
 
-/// A message with its quoted words left out; quoted marks stay.
+/// A message with its quoted words and characters beyond ASCII left out; quoted marks stay.
 fn in_general(message: &str) -> String {
     let mut general = String::new();
     let mut rest = message;
@@ -120,7 +122,8 @@ fn in_general(message: &str) -> String {
             break;
         };
         let quoted = &rest[start..start + length + 2];
-        let is_word = quoted.contains(|c: char| c.is_alphanumeric() || c == '_');
+        let is_word =
+            quoted.contains(|c: char| c.is_ascii_alphanumeric() || c == '_' || !c.is_ascii());
         general.push_str(&rest[..start]);
         general.push_str(if is_word { ".." } else { quoted });
         rest = &rest[start + length + 2..];
@@ -216,6 +219,25 @@ mod tests {
         assert_eq!(class.unwrap(), "the port refuses by 3 at /, it accepts");
         let class = differ("no 6 3 3 0 0\n", STAGE);
         assert_eq!(class.unwrap(), "the port refuses by 6, it accepts");
+    }
+
+    #[test]
+    fn characters_beyond_ascii_are_of_one_class() {
+        let class = |character: &str| {
+            let said = format!("no ? Unexpected character '{character}'.\n");
+            differ(STAGE, &said).expect("a difference")
+        };
+        for character in ["𐐀", "\u{30FB}", "\u{1ACF}", "\u{FFFD}"] {
+            let expected = "the port accepts, it refuses: Unexpected character ...";
+            assert_eq!(class(character), expected);
+        }
+        let item = Item {
+            reading: Reading::Stage,
+            bytes: "<\u{3D000}/>".as_bytes().to_vec(),
+        };
+        let refusal = Refusal::Told(3, [1, 1, 0, 0]);
+        let expected = "refuses by 3 at a character beyond ASCII";
+        assert_eq!(at_byte(&item, &refusal), expected);
     }
 
     #[test]

@@ -2,7 +2,7 @@
 //! document 02.
 
 use crate::answer::{Answer, Refusal};
-use crate::blank::{blank_length, ends_line};
+use crate::blank::{blank_length, ends_line, nearly_blank};
 use crate::item::{Item, Reading};
 
 /// Whether the domain holds the port's answer to this item, so that a parser that accepts where the port refuses,
@@ -29,13 +29,14 @@ pub fn compared(item: &Item, port: &Answer) -> bool {
     }
 }
 
-/// D: "The same for 3 outside braces at an ASCII byte other than a backslash, after the stage's first `<`, and not for
-/// a run's outermost `</`". So what only looks like a blank, as U+200B does, is not compared: request 7 changes that.
+/// D: "The same for 3 outside braces .., after the stage's first `<`, and not for a run's outermost `</`". D2: "Demand
+/// 2's rule for 3 outside braces now covers all bytes but a backslash and the blanks listed under CR 1."
 fn three_compared(item: &Item, place: usize) -> bool {
-    let plain = |byte: &u8| byte.is_ascii() && *byte != b'\\';
+    let rest = item.bytes.get(place..).unwrap_or_default();
+    let covered = !rest.is_empty() && rest[0] != b'\\' && !nearly_blank(rest);
     let reach = Reach::of(item, place);
     let outermost_closing = reach.open == [Inside::Children];
-    item.bytes.get(place).is_some_and(plain)
+    covered
         && !reach.odd_string
         && !reach.open.contains(&Inside::Braces)
         && match item.reading {

@@ -179,11 +179,59 @@ fn braces_in_texts_count() {
     all_compared(false, &cases);
 }
 
+/// Request 7 of document 02: at any character that fits nowhere.
+#[test]
+fn three_at_characters_beyond_ascii() {
+    let cases: [Case; 12] = [
+        (STAGE, "<×/>", &[3, 1]),
+        (STAGE, "<a×/>", &[3, 2]),
+        (STAGE, "<é\u{2010}b/>", &[3, 3]),
+        (STAGE, "<\u{301}/>", &[3, 1]),
+        (STAGE, "<a \u{200D}/>", &[3, 3]),
+        (STAGE, "<a b='c'\u{301}/>", &[3, 8]),
+        (STAGE, "<a b=한/>", &[3, 5]),
+        (STAGE, "<a></\u{3347A}>", &[3, 5]),
+        (STAGE, "<é b={c} ：/>", &[3, 11]),
+        (RUN, "<a.😀/>", &[3, 3]),
+        (RUN, "x<a {...b}\u{AD}/>", &[3, 11]),
+        (STAGE, "<a\u{200A}\u{200E}/>", &[3, 5]),
+    ];
+    all_compared(true, &cases);
+}
+
+#[test]
+fn three_at_characters_beyond_ascii_in_braces_or_before_the_first_tag() {
+    let cases: [Case; 5] = [
+        (STAGE, "<a>{é}</a>", &[3, 4]),
+        (STAGE, "<a>{b.한}</a>", &[3, 6]),
+        (STAGE, "<é>{<λ ×", &[3, 9]),
+        (STAGE, "é<a/>", &[3, 0]),
+        (RUN, "<é></é></é>", &[3, 9]),
+    ];
+    all_compared(false, &cases);
+}
+
+/// Names of any script, in tags that are accepted or refused further on.
+#[test]
+fn names_beyond_ascii() {
+    let cases: [Case; 8] = [
+        (STAGE, "<한/>", &[]),
+        (STAGE, "<é-λ:𐐀 b='c'é/>", &[]),
+        (RUN, "{<é λ={b}/>}", &[]),
+        (STAGE, "<é", &[4, 3]),
+        (STAGE, "<é></e\u{301}>", &[7, 1, 3, 6, 9]),
+        (STAGE, "<a.é-/>", &[10, 3, 6]),
+        (STAGE, "<é/><λ/>", &[12, 5, 6]),
+        (STAGE, "<é λ='", &[5, 7]),
+    ];
+    all_compared(true, &cases);
+}
+
 #[test]
 fn three_at_bytes_that_are_left_out() {
     let cases: [Case; 6] = [
         (STAGE, "<\\u0061/>", &[3, 1]),
-        (STAGE, "<aé/>", &[3, 2]),
+        (STAGE, "<é\\u0061/>", &[3, 3]),
         (STAGE, "<a\u{85}/>", &[3, 2]),
         (STAGE, "<a\u{180E}/>", &[3, 2]),
         (STAGE, "<a\u{A0}\u{200B}/>", &[3, 4]),

@@ -8,6 +8,7 @@ pub mod domain;
 pub mod found;
 pub mod item;
 pub mod known;
+pub mod name;
 pub mod night;
 pub mod options;
 pub mod parts;

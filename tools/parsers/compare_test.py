@@ -1,5 +1,5 @@
 #!/usr/bin/env python3
-"""Tests of compare: what counts as a difference, and that it shrinks; and of items: which blanks they have."""
+"""Tests of compare: what counts as a difference, and that it shrinks; and of items: their blanks and names."""
 import os
 import re
 import sys
@@ -60,6 +60,12 @@ class Difference(unittest.TestCase):
         self.assertIsNone(self.differs(["no 6 3 3 0 0"], {"no": "Unexpected token"}))
         self.assertIsNone(self.differs(["no 18 2 2 0 0"], {"no": "Unterminated string constant"}))
 
+    def test_characters_beyond_ascii_are_of_one_class(self):
+        differs = compare.difference("<\u088f/>".encode(), port_answer(["no 3 1 1 0 0"]), {"rows": None})
+        self.assertEqual(differs, ("refuses by 3 at a character beyond ASCII", "accepts"))
+        differs = self.differs(STAGE, {"no": "Unexpected character '\u30fb'."})
+        self.assertEqual(differs, ("accepts", "refuses: Unexpected character ..."))
+
     def test_the_checker_stands_with_its_parser(self):
         answers = compare.with_checker({"typescript": {"rows": None}, "checker": {"no": "TS17001: twice"}})
         self.assertEqual(self.differs(STAGE, answers["typescript"]), ("accepts", "accepts, its checker refuses: TS17001: twice"))
@@ -110,6 +116,18 @@ class Items(unittest.TestCase):
         texts = [items.random_item(rng, number)[1].decode() for number in range(3000)]
         for character in items.NEW_BLANKS + ["//\u2028", "//x\u2029"]:
             self.assertTrue(any(character in text for text in texts), ascii(character))
+
+    def test_name_characters_beyond_ascii_stand_at_every_hole(self):
+        filled = set(items.filled())
+        for character in items.LETTERS + items.LATER_ONLY + items.IN_NO_NAME:
+            for frame in items.HOLES:
+                self.assertIn(("s", frame.replace("@", character).encode()), filled)
+
+    def test_random_items_have_names_beyond_ascii(self):
+        rng = items.random.Random(1)
+        texts = [items.random_item(rng, number)[1].decode() for number in range(3000)]
+        for name in items.NEW_NAMES:
+            self.assertTrue(any("<" + name in text for text in texts), ascii(name))
 
     def test_a_refusal(self):
         self.assertEqual(port_answer(["no 7 1 2 5 6"]), compare.Answer(7, [1, 2, 5, 6], None))
