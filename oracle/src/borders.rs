@@ -5,7 +5,8 @@
 use crate::blocks::{refused, Known};
 use crate::bytes::is_blank;
 use crate::characters::{begins_a_part, continues_a_part, id_continue, id_start, Range};
-use crate::Reading::{self, Stage};
+use crate::scripts::Asked;
+use crate::Reading::Stage;
 use crate::Refusal;
 use std::collections::BTreeSet;
 
@@ -99,8 +100,7 @@ pub(crate) fn inputs() -> Vec<Known> {
     all
 }
 
-/// Inputs whose answers the reader alone gives: class, reading, bytes.
-pub(crate) fn others() -> Vec<(&'static str, Reading, Vec<u8>)> {
+pub(crate) fn others() -> Vec<Asked> {
     let mut all = Vec::new();
     for character in '\0'..='\x7F' {
         for beginning in ["<", "<a", "<é", "<a ", "<a.é"] {

@@ -174,8 +174,10 @@ pub(crate) fn inputs() -> Vec<Known> {
     all
 }
 
-/// Inputs whose answers the reader alone gives: class, reading, bytes.
-pub(crate) fn others() -> Vec<(&'static str, Reading, Vec<u8>)> {
+/// An input whose answer the reader alone gives: its class, its reading and its bytes.
+pub(crate) type Asked = (&'static str, Reading, Vec<u8>);
+
+pub(crate) fn others() -> Vec<Asked> {
     let mut all = Vec::new();
     characters_in_places(&mut all);
     for (one, other) in LIKE_EACH_OTHER {
@@ -204,7 +206,7 @@ pub(crate) fn characters() -> Vec<&'static str> {
 }
 
 /// Each character in each frame; and each frame as it stands, with no refusal behind it, the characters taking turns.
-fn characters_in_places(all: &mut Vec<(&'static str, Reading, Vec<u8>)>) {
+fn characters_in_places(all: &mut Vec<Asked>) {
     let characters = characters();
     let mut letters = LETTERS.iter().chain(&LATER_ONLY).cycle();
     for (class, reading, frames, end) in PLACES {
@@ -222,7 +224,7 @@ fn characters_in_places(all: &mut Vec<(&'static str, Reading, Vec<u8>)>) {
 }
 
 /// 7.14: what may be the 65th level, and what nearly is.
-fn deep_names(all: &mut Vec<(&'static str, Reading, Vec<u8>)>) {
+fn deep_names(all: &mut Vec<Asked>) {
     let openers = ["<é>", "<한.λ>", "<a-𐐀>", "<>"];
     let tails = ["<@", "<@>", "<\u{A0}@", "</@", "<a @={", "{<@", "<@ b=<@"];
     let mut turns = openers.iter().cycle();
