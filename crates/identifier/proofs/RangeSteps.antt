@@ -10,8 +10,8 @@ use lib.Dec.{leb, ltb}
 use borrow.Author.Needs.{needs}
 use borrow.Author.Tests.{lt-ltb, le-ltb, le-leb, lt-leb}
 use Rattle.rules.specs.Parse.{pick}
-use Rattle.jsx.specs.Unicode.{inRanges, firstOf, lastOf, Ordered}
-use Rattle.jsx.proofs.Unicode.{first-more, last-more}
+use Rattle.jsx.specs.Unicode.{inRanges, firstOf, lastOf, orderedFrom, Ordered}
+use Rattle.jsx.proofs.Unicode.{first-more, last-more, is-ordered}
 
 -- ---- what decides
 
@@ -90,7 +90,10 @@ module _ {r : List ℕ} {c lo hi : ℕ} (b : Between r c lo hi) where
     pub half-inside : 2 * (lo + (hi - lo) / 2) + 1 < length r
     half-inside = let i = b .inside in omega arith
 
-  module _ (o : Ordered r) (l : lo < hi) where
+  module _ (passes : orderedFrom 0x80 r ≡ true) (l : lo < hi) where
+    o : Ordered r
+    o = is-ordered 0x80 r passes
+
     abbrev half : ℕ
     half = lo + (hi - lo) / 2
 

@@ -10,8 +10,8 @@ use Rattle.rules.specs.Parse.{pick}
 use Rattle.rules.proofs.Run.{both}
 use Rattle.jsx.specs.Byte.{_‥_, is, _or_}
 use Rattle.jsx.specs.Ranges.{startRanges, continueRanges}
-use Rattle.jsx.specs.Unicode.{inRanges, Ordered}
-use Rattle.jsx.proofs.Unicode.{holdsRange, in-range, start-ordered, continue-ordered}
+use Rattle.jsx.specs.Unicode.{inRanges, orderedFrom}
+use Rattle.jsx.proofs.Unicode.{holdsRange, in-range, continue-passes}
 use Rattle.lex.proofs.TestSteps.{or-first, or-second}
 use Rattle.lex.proofs.Laws.{is-first, is-second}
 use Rattle.identifier.specs.Script.{european, eastAsian, common}
@@ -58,8 +58,8 @@ start-common c i x = sym (common-starts c (sym i ∙ x))
 -- ---- the code's tables are the definition's
 
 -- The table that is lent is ordered.
-pub table-ordered : {r : List ℕ} → r ≡ continueRanges → Ordered r
-table-ordered e = rw e continue-ordered
+pub table-passes : {r : List ℕ} → r ≡ continueRanges → orderedFrom 0x80 r ≡ true
+table-passes e = rw e continue-passes
 
 module _ (c : ℕ) {r : List ℕ} (e : r ≡ continueRanges) {t : Bool} (i : t ≡ inRanges r c) where
   -- A code in the table.
@@ -71,4 +71,4 @@ module _ (c : ℕ) {r : List ℕ} (e : r ≡ continueRanges) {t : Bool} (i : t �
   part-other x j = or-second (i ∙ ap (λ (w : List ℕ). inRanges w c) e) x j
 
 pub ruleset script-steps =
-    (needs, start-common, start-ordered, table-ordered, part-found, part-other, is-first, is-second)
+    (needs, start-common, table-passes, part-found, part-other, is-first, is-second)

@@ -1,8 +1,9 @@
 // Which characters beyond ASCII names are made of, by their codes: ID_Start and ID_Continue of Unicode.
 ghost use mathlib.Core.Path.{_≡_};
+ghost use mathlib.Core.Bool.{true};
 ghost use Rattle.jsx.specs.Byte.{is, _or_};
 ghost use Rattle.jsx.specs.Ranges.{startRanges, continueRanges};
-ghost use Rattle.jsx.specs.Unicode.{inRanges, Ordered};
+ghost use Rattle.jsx.specs.Unicode.{inRanges, orderedFrom};
 ghost use Rattle.identifier.specs.Script.{european, eastAsian, common};
 use ranges::START;
 
@@ -43,7 +44,7 @@ pub fn is_common(c: u32) -> bool
 
 // Whether a code stands in a table of ranges, by halves.
 fn in_ranges(r: &[u32], c: u32) -> bool
-    requires { ⌜ Ordered (now r) ⌝ }
+    requires { ⌜ orderedFrom 0x80 (now r) ≡ true ⌝ }
     ensures { λ b. ⌜ b ≡ inRanges (now (r .entry)) c ⌝ }
 {
     let mut lo = 0; // each range before it ends before c

@@ -15,16 +15,10 @@ use Rattle.rules.specs.Rule.{Test}
 use Rattle.jsx.specs.Byte.{letter, digit, is, oneOf, _or_}
 use Rattle.jsx.specs.Blank.{spaceSeparator, whiteSpace, lineTerminator, blankChar}
 use Rattle.jsx.specs.Ranges.{startRanges, continueRanges}
-use Rattle.jsx.specs.Unicode.{inRanges, idStart, idContinue, firstOf, lastOf, Ordered}
+use Rattle.jsx.specs.Unicode.{inRanges, idStart, idContinue, firstOf, lastOf, orderedFrom, Ordered}
 use Rattle.jsx.specs.Name.{opensPart, inPart}
 
 -- ---- in order, and no range into another
-
--- No range begins before `from`, none ends before it begins, and at least one code stands between two ranges.
-unfoldable pub orderedFrom : (from : ℕ) → List ℕ → Bool
-orderedFrom from [] = true
-orderedFrom from (lo ∷ []) = false
-orderedFrom from (lo ∷ hi ∷ more) = pick (leb from lo) (pick (leb lo hi) (orderedFrom (hi + 2) more) false) false
 
 -- Behind the first range.
 pub first-more : (lo hi : ℕ) (more : List ℕ) (i : ℕ) → firstOf (lo ∷ hi ∷ more) (suc i) ≡ firstOf more i
@@ -88,13 +82,20 @@ ranges-apart from (lo ∷ hi ∷ more) h (suc i) (suc j) l m =
 pub is-ordered : (from : ℕ) (t : List ℕ) → orderedFrom from t ≡ true → Ordered t
 is-ordered from t h = record { each = λ i l. behind from t h i l .range; apart = ranges-apart from t h }
 
-pub start-ordered : Ordered startRanges
+-- Both tables do.
+pub start-passes : orderedFrom 0x80 startRanges ≡ true
 unfolding orderedFrom startRanges
-start-ordered = is-ordered 0x80 startRanges refl
+start-passes = refl
+
+pub continue-passes : orderedFrom 0x80 continueRanges ≡ true
+unfolding orderedFrom continueRanges
+continue-passes = refl
+
+pub start-ordered : Ordered startRanges
+start-ordered = is-ordered 0x80 startRanges start-passes
 
 pub continue-ordered : Ordered continueRanges
-unfolding orderedFrom continueRanges
-continue-ordered = is-ordered 0x80 continueRanges refl
+continue-ordered = is-ordered 0x80 continueRanges continue-passes
 
 -- ---- what may be first may be later
 

@@ -1,4 +1,5 @@
 use Rattle.jsx.specs.Ranges.{startRanges}
+use Rattle.jsx.specs.Unicode.{orderedFrom}
 use Rattle.identifier.proofs.is_identifier_start_unicode.Statement.{statement}
 use Rattle.identifier.proofs.is_identifier_start_unicode.Tie as tie
 use Rattle.identifier.proofs.ScriptSteps.{script-steps}
@@ -7,14 +8,13 @@ is-common-requires : tie.Need-is-common-requires
 is-common-requires c κs = search script-steps
 
 returns : tie.Need-returns
-unfolding startRanges
 returns c = search script-steps
 
 slice-aggregate-in-ranges : tie.Need-slice-aggregate-in-ranges
 slice-aggregate-in-ranges c = search script-steps
 
 in-ranges-requires : tie.Need-in-ranges-requires
-unfolding startRanges
+unfolding orderedFrom
 in-ranges-requires c κs = search script-steps
 
 returns-2 : tie.Need-returns-2
