@@ -15,7 +15,7 @@ use Rattle.rules.specs.Forest.{nil, byte}
 use Rattle.rules.specs.Parse.{got, pick, byteAt, opens, parsed}
 use Rattle.rules.proofs.Run.{never}
 use Rattle.jsx.specs.Refusal.{commentNeverClosed}
-use Rattle.jsx.specs.Byte.{bytesOf, is}
+use Rattle.jsx.specs.Byte.{oneOf, bytesOf, is}
 use Rattle.jsx.specs.Blank.{lineTerminator, commentTurn, comment, lineTurn, lineComment}
 use Rattle.lex.specs.Contract.{nothing, Leaf, Past}
 use Rattle.lex.specs.declared.Ans.the-variants.{Got, No}
@@ -96,7 +96,7 @@ comment-room {s} {p = p} v i z = Laws.two-inside s p (code "*") (code "/") (lit<
 
 -- What stops no scan of a line ends none: tried of each byte of ASCII.
 plain-tests : each (λ b. pick (lineStop b) true (not (lineTerminator b))) 0 0x80 ≡ true
-unfolding each lineTerminator
+unfolding oneOf each lineTerminator
 plain-tests = refl
 
 -- What stops none is of ASCII.

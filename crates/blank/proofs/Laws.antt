@@ -13,7 +13,7 @@ use Rattle.rules.specs.Rule.{Rule, step, seq, many}
 use Rattle.rules.specs.Parse.{got, trouble, pick, behind, byteAt, opens, noChar, codeAt, parse, parsed, readAt}
 use Rattle.rules.proofs.Run.{goes, never, both}
 use Rattle.jsx.specs.Refusal.{commentNeverClosed}
-use Rattle.jsx.specs.Byte.{bytesOf, is, end, _‥_, character}
+use Rattle.jsx.specs.Byte.{oneOf, bytesOf, is, end, _‥_, character}
 use Rattle.jsx.specs.Blank.{spaceSeparator, whiteSpace, lineTerminator, blankChar, commentTurn, comment, lineTurn}
 use Rattle.jsx.specs.Blank.{lineComment, blank, blanks, pass}
 use Rattle.lex.specs.Contract.{outOf, nothing, Leaf}
@@ -142,12 +142,12 @@ module _ (s : List ℕ) (p : ℕ) where
 
 -- No blank has the code that no character has.
 not-blank : blankChar noChar ≡ false
-unfolding blankChar whiteSpace spaceSeparator lineTerminator
+unfolding oneOf blankChar whiteSpace spaceSeparator lineTerminator
 not-blank = refl
 
 -- No blank is a character of ASCII behind the space.
 pub not-token : (b : ℕ) → (0x21 ‥ 0x7F) b ≡ true → blankChar b ≡ false
-unfolding each blankChar whiteSpace spaceSeparator lineTerminator
+unfolding oneOf each blankChar whiteSpace spaceSeparator lineTerminator
 not-token b h =
     let k = both (leb 0x21 b) (leb b 0x7F) h in
     let l = leb-true 0x21 b (k .0) in

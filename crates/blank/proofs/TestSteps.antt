@@ -10,7 +10,7 @@ use native.Mathlib.Decide.{decLt}
 use lib.Dec.{ltb, leb, eqb}
 use borrow.Author.Tests.{lt-ltb, le-ltb, le-leb, lt-leb, ne-eqb, eq-eqb, not-true}
 use Rattle.rules.specs.Parse.{pick, byteAt, codeAt}
-use Rattle.jsx.specs.Byte.{_‥_, end}
+use Rattle.jsx.specs.Byte.{oneOf, _‥_, end}
 use Rattle.jsx.specs.Blank.{spaceSeparator, whiteSpace, lineTerminator, blankChar}
 use Rattle.lex.proofs.Laws.{is-first, is-second}
 use Rattle.lex.proofs.Ranges.{each, each-passes}
@@ -22,21 +22,21 @@ use Rattle.blank.specs.Here.{blankByte, blankWidth, lineEnds}
 
 -- Tab to CR.
 low-blank : (c : ℕ) → code "\t" ≤ c → c < 1 + code "\r" → blankChar c ≡ true
-unfolding each blankChar whiteSpace spaceSeparator lineTerminator
+unfolding oneOf each blankChar whiteSpace spaceSeparator lineTerminator
 low-blank c h k = each-passes blankChar 9 5 refl c h (omega arith)
 
 -- U+2000 to U+200A.
 wide-blank : (c : ℕ) → 0x2000 ≤ c → c < 0x200B → blankChar c ≡ true
-unfolding each blankChar whiteSpace spaceSeparator lineTerminator
+unfolding oneOf each blankChar whiteSpace spaceSeparator lineTerminator
 wide-blank c h k = each-passes blankChar 0x2000 11 refl c h (omega arith)
 
 -- U+2028 and U+2029 are blanks and end a line.
 line-blank : (c : ℕ) → 0x2028 ≤ c → c < 0x202A → blankChar c ≡ true
-unfolding each blankChar whiteSpace spaceSeparator lineTerminator
+unfolding oneOf each blankChar whiteSpace spaceSeparator lineTerminator
 line-blank c h k = each-passes blankChar 0x2028 2 refl c h (omega arith)
 
 line-wide : (c : ℕ) → 0x2028 ≤ c → c < 0x202A → lineTerminator c ≡ true
-unfolding each lineTerminator
+unfolding oneOf each lineTerminator
 line-wide c h k = each-passes lineTerminator 0x2028 2 refl c h (omega arith)
 
 -- The six that stand alone, by their codes.
@@ -48,7 +48,7 @@ none-blank : (c : ℕ) → (9 ≤ c → c < 14 → ⊥) → (c ≡ code " " → 
     → (Alone c → ⊥)
     → (0x2000 ≤ c → c < 0x200B → ⊥) → (0x2028 ≤ c → c < 0x202A → ⊥)
     → blankChar c ≡ false
-unfolding blankChar whiteSpace spaceSeparator lineTerminator
+unfolding oneOf blankChar whiteSpace spaceSeparator lineTerminator
 none-blank c low space others wide line =
     let l : (k : ℕ) → 9 ≤ k → k < 14 → eqb c k ≡ false = λ k i j. ne-eqb c k (λ x. low (omega arith) (omega arith)) in
     let w : (k : ℕ) → 0x2000 ≤ k → k < 0x200B → eqb c k ≡ false =
@@ -86,7 +86,7 @@ none-blank c low space others wide line =
 module _ {c : ℕ} where
   -- One of them.
   pub char-alone : Alone c → true ≡ blankChar c
-  unfolding blankChar whiteSpace spaceSeparator lineTerminator
+  unfolding oneOf blankChar whiteSpace spaceSeparator lineTerminator
   char-alone (inl h) = sym (rw h)
   char-alone (inr (inl h)) = sym (rw h)
   char-alone (inr (inr (inl h))) = sym (rw h)
@@ -128,13 +128,13 @@ module _ {c : ℕ} where
 
   -- LF or CR.
   pub line-low : (c ≡ code "\n") ⊎ (c ≡ code "\r") → true ≡ lineTerminator c
-  unfolding lineTerminator
+  unfolding oneOf lineTerminator
   line-low (inl h) = sym (rw h)
   line-low (inr h) = sym (rw h)
 
   module _ (low : (c ≡ code "\n") ⊎ (c ≡ code "\r") → ⊥) where
     none-line : (0x2028 ≤ c → c < 0x202A → ⊥) → false ≡ lineTerminator c
-    unfolding lineTerminator
+    unfolding oneOf lineTerminator
     none-line h =
         sym (rw (
           ne-eqb c 10 (λ x. low (inl x)),
@@ -161,7 +161,7 @@ module _ {c : ℕ} where
 module _ {b : ℕ} where
   -- The space.
   pub byte-space : b ≡ code " " → true ≡ blankByte b
-  unfolding blankByte blankChar whiteSpace spaceSeparator lineTerminator
+  unfolding oneOf blankByte blankChar whiteSpace spaceSeparator lineTerminator
   byte-space h = sym (rw h)
 
   module _ (space : b ≡ code " " → ⊥) where

@@ -196,24 +196,23 @@ low-line : {c : ℕ} → c ≡ code "_" → idContinue c ≡ true
 unfolding idContinue letter digit
 low-line e = rw e
 
+first-holds : (a b : Bool) → a ≡ true → pick a true b ≡ true
+first-holds a b h = rw h
+
+second-holds : (a b c : Bool) → b ≡ true → pick a true (pick b true c) ≡ true
+second-holds true b c h = refl
+second-holds false b c h = rw h
+
 -- A character that may be the first of a part may be a later one.
 pub opens-goes-on : (c : ℕ) → opensPart c ≡ true → inPart c ≡ true
 unfolding opensPart inPart
-opens-goes-on c e = go (idStart c) refl e
+opens-goes-on c h = go (idStart c) refl (is "$" c) refl h
   where
-    either : (b : Bool) → pick b true true ≡ true
-    either true = refl
-    either false = refl
-
-    dollar : (d : Bool) → is "$" c ≡ d → pick d true (is "_" c) ≡ true
-        → pick (idContinue c) true ((is "$" or is "\u{200c}" or is "\u{200d}" or is "-") c) ≡ true
-    dollar true e k = rw e (either (idContinue c))
-    dollar false e k = rw (low-line (eqb-true c (code "_") k))
-
-    go : (b : Bool) → idStart c ≡ b → pick b true ((is "$" or is "_") c) ≡ true
-        → pick (idContinue c) true ((is "$" or is "\u{200c}" or is "\u{200d}" or is "-") c) ≡ true
-    go true f k = rw (start-continues c f)
-    go false f k = dollar (is "$" c) refl k
+    go : (a : Bool) → idStart c ≡ a → (b : Bool) → is "$" c ≡ b → pick a true (pick b true (is "_" c)) ≡ true
+        → inPart c ≡ true
+    go true e b f k = first-holds (idContinue c) _ (start-continues c e)
+    go false e true f k = second-holds (idContinue c) (is "$" c) _ f
+    go false e false f k = first-holds (idContinue c) _ (low-line (eqb-true c (code "_") k))
 
 -- ---- no blank is a character of a name
 
@@ -223,7 +222,7 @@ nonePasses f S.[] = true
 nonePasses f (S._∷_ x w) = pick (f (code x)) false (nonePasses f w)
 
 one-fails : (f : Test) (w : S.String) (c : ℕ) → nonePasses f w ≡ true → oneOf w c ≡ true → f c ≡ false
-unfolding nonePasses
+unfolding nonePasses oneOf
 one-fails f S.[] c h k = never k
 one-fails f (S._∷_ x w) c h k =
     go (eqb c (code x)) refl (f (code x)) refl h k (one-fails f w c)
@@ -253,14 +252,11 @@ unfolding nonePasses blankChar whiteSpace spaceSeparator lineTerminator inPart i
 blank-apart c h = go (whiteSpace c) refl h
   where
     space : spaceSeparator c ≡ true → inPart c ≡ false
-    space k =
-        one-or inPart " \u{a0}\u{1680}" c _ refl k (λ k.
-        one-or inPart "\u{2000}\u{2001}\u{2002}\u{2003}\u{2004}\u{2005}\u{2006}\u{2007}\u{2008}\u{2009}\u{200a}" c _ refl
-        k (one-fails inPart "\u{202f}\u{205f}\u{3000}" c refl))
+    space k = one-or inPart _ c _ refl k (λ k. one-or inPart _ c _ refl k (one-fails inPart _ c refl))
 
     go : (b : Bool) → whiteSpace c ≡ b → pick b true (lineTerminator c) ≡ true → inPart c ≡ false
-    go true e k = one-or inPart "\t\u{b}\u{c} \u{a0}\u{feff}" c _ refl e space
-    go false e k = one-fails inPart "\n\r\u{2028}\u{2029}" c refl k
+    go true e k = one-or inPart _ c _ refl e space
+    go false e k = one-fails inPart _ c refl k
 
 -- So a character that opens a part is no blank.
 pub opens-no-blank : (c : ℕ) → opensPart c ≡ true → blankChar c ≡ false

@@ -27,7 +27,7 @@ abbrev pub is : Char → Test
 is c b = eqb b (code c)
 
 -- One of the characters of this text, by its code.
-abbrev pub oneOf : S.String → Test
+unfoldable pub oneOf : S.String → Test
 oneOf S.[] c = false
 oneOf (S._∷_ x w) c = pick (eqb c (code x)) true (oneOf w c)
 
