@@ -141,7 +141,8 @@ enum lorikvar_kind {
     LORIKVAR_KIND_FRAGMENT = 2,
     /* A name of one part: v. */
     LORIKVAR_KIND_IDENTIFIER = 3,
-    /* A name of one part with no dash that begins with A-Z, _ or $; the first part of a member name. */
+    /* A name of one part with no dash that begins with A-Z, _, $ or a character beyond ASCII; the first part of a
+     * member name. */
     LORIKVAR_KIND_REFERENCE = 4,
     /* The name `this`, exactly, by itself or as the first part of a member name. */
     LORIKVAR_KIND_THIS = 5,

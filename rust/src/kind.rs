@@ -9,7 +9,8 @@ pub enum Kind {
     Fragment = 2,
     /// A name of one part, as `v`.
     Identifier = 3,
-    /// A name of one part that begins with A-Z, `_` or `$` and has no dash; the first part of a member name.
+    /// A name of one part that begins with A-Z, `_`, `$` or a character beyond ASCII and has no dash; the first part of
+    /// a member name.
     Reference = 4,
     /// The name `this`, exactly, by itself or as the first part of a member name.
     This = 5,
