@@ -51,6 +51,11 @@ static inline void assert_same(Answer x, Answer y, const Reader *reader, const I
     fail("answers differ", in->name);
 }
 
+/* An older port may refuse what is new. */
+static inline int is_refusal_of_new(const Reader *reader, Answer first, Answer answer) {
+    return strcmp(reader->name, "before") == 0 && first.number == 0 && answer.number != 0;
+}
+
 /* Holds every reader against the first, with a table of so many words. Gives the first's answer to the read. */
 static inline Answer assert_equal(const Input *in, size_t words) {
     Answer checked = check_answer(&readers[0], in);
@@ -58,7 +63,9 @@ static inline Answer assert_equal(const Input *in, size_t words) {
     if (first.number != 15) assert_same(checked, first, &readers[0], in);
     assert_untouched(&readers[0], in, first, first_table, words);
     for (int i = 1; i < READERS; i++) {
-        assert_same(checked, check_answer(&readers[i], in), &readers[i], in);
+        Answer answer = check_answer(&readers[i], in);
+        if (is_refusal_of_new(&readers[i], checked, answer)) continue;
+        assert_same(checked, answer, &readers[i], in);
         assert_same(first, read_answer(&readers[i], in, other_table, words), &readers[i], in);
         if (memcmp(first_table, other_table, sizeof(uint32_t) * (words + MARGIN))) fail("tables differ", in->name);
     }

@@ -1,8 +1,9 @@
-/* A plain C reader of document 01, with requests 5, 3 and 1 of document 02, byte by byte: the yardstick. It keeps the
-   port's contract and nothing of its code. A check is the UTF-8 test and one pass; a read is a check, then the same
+/* A plain C reader of document 01, with requests 5, 3, 1 and 7 of document 02, byte by byte: the yardstick. It keeps
+   the port's contract and nothing of its code. A check is the UTF-8 test and one pass; a read is a check, then the same
    pass with a table. No trick that a first version in C would not have: keep it so. A function gives 1 where it could
    go on, 0 where the reader holds a refusal. */
 #include "plain.h"
+#include "ranges.h"
 #include <string.h>
 
 enum { END = 256, LIMIT = 1048576, DEPTH = 64 };
@@ -162,6 +163,57 @@ static int blanks(R *r) {
     }
 }
 
+/* ---- characters of names */
+
+/* The code of the character beyond ASCII that begins here, and its length. The input is UTF-8 by now. */
+static uint32_t code(const uint8_t *s, size_t *k) {
+    *k = s[0] < 0xE0 ? 2 : s[0] < 0xF0 ? 3 : 4;
+    uint32_t c = s[0] & (0xFF >> (*k + 1));
+    for (size_t i = 1; i < *k; i++) c = c << 6 | (s[i] & 0x3F);
+    return c;
+}
+
+/* Whether a code is in one of so many ranges, by halves. */
+static int in_ranges(const uint32_t *ranges, size_t n, uint32_t c) {
+    size_t low = 0, high = n;
+    while (low < high) {
+        size_t m = (low + high) / 2;
+        if (c < ranges[2 * m]) high = m;
+        else if (c > ranges[2 * m + 1]) low = m + 1;
+        else return 1;
+    }
+    return 0;
+}
+
+/* The length of the character beyond ASCII that begins here, if it opens a part of a name; else 0. */
+static size_t wide_first(const uint8_t *s) {
+    size_t k;
+    uint32_t c = code(s, &k);
+    return in_ranges(START, sizeof START / (2 * sizeof *START), c) ? k : 0;
+}
+
+/* The same, if it may stand behind the first one. */
+static size_t wide_later(const uint8_t *s) {
+    size_t k;
+    uint32_t c = code(s, &k);
+    if (c == 0x200C || c == 0x200D) return k;
+    return in_ranges(CONTINUE, sizeof CONTINUE / (2 * sizeof *CONTINUE), c) ? k : 0;
+}
+
+/* The length of the character at p that opens a part of a name; 0 where none does. */
+static inline size_t first_length(R *r, size_t p) {
+    int b = byte(r, p);
+    if (opens(b)) return 1;
+    return among(b, 0x80, 0xFF) ? wide_first(r->s + p) : 0;
+}
+
+/* The same of one that may stand behind it. */
+static inline size_t later_length(R *r, size_t p) {
+    int b = byte(r, p);
+    if (in_word(b) || b == '-') return 1;
+    return among(b, 0x80, 0xFF) ? wide_later(r->s + p) : 0;
+}
+
 /* ---- records and names */
 
 static inline void put(R *r, size_t i, uint32_t kind, size_t a, size_t b, uint32_t parent, uint32_t extra) {
@@ -177,13 +229,21 @@ static inline void put(R *r, size_t i, uint32_t kind, size_t a, size_t b, uint32
 }
 
 static int part(R *r, Span *p, int *dash) {
-    if (!opens(here(r))) return need(r);
-    p->a = r->at++;
+    size_t k = first_length(r, r->at);
+    if (k == 0) return need(r);
+    p->a = r->at;
+    r->at += k;
     *dash = 0;
     for (;;) {
         int b = here(r);
         if (b == '-') *dash = 1;
-        else if (!in_word(b)) break;
+        else if (!in_word(b)) {
+            if (!among(b, 0x80, 0xFF)) break;
+            k = wide_later(r->s + r->at);
+            if (k == 0) break;
+            r->at += k;
+            continue;
+        }
         r->at++;
     }
     p->b = r->at;
@@ -196,7 +256,7 @@ static int is_this(R *r, Span p) {
 
 static uint32_t kind_of(R *r, Span p, int dash) {
     uint8_t b = r->s[p.a];
-    if (!dash && (among(b, 'A', 'Z') || b == '_' || b == '$')) return 4;
+    if (!dash && (among(b, 'A', 'Z') || b == '_' || b == '$' || b >= 0x80)) return 4;
     return !dash && is_this(r, p) ? 5 : 3;
 }
 
@@ -269,7 +329,8 @@ static size_t behind(const R *r, size_t p) {
 }
 
 static size_t part_end(R *r, size_t p, size_t end) {
-    while (p < end && (in_word(r->s[p]) || r->s[p] == '-')) p++;
+    size_t k;
+    while (p < end && (k = later_length(r, p))) p += k;
     return p;
 }
 
@@ -628,7 +689,7 @@ static int element(R *r, uint32_t parent) {
     size_t start = r->at++;
     if (!blanks(r)) return 0;
     int b = here(r), paired;
-    if (b != '>' && !opens(b)) return need(r);
+    if (b != '>' && !first_length(r, r->at)) return need(r);
     if (!r->left) return no_at(r, 14, start);
     r->left--;
     int fragment = b == '>';

@@ -39,16 +39,25 @@ static inline int ascending(const void *x, const void *y) {
     return (a > b) - (a < b);
 }
 
+/* Whether a reader has turns: not an older port, where it refuses the input. */
+static inline int has_turns(const Reader *reader, int call, const Input *in) {
+    size_t values[4];
+    return call == PASS || make_call(reader, call, in, values) == 0;
+}
+
 /* The turns of the first so many readers. */
 static inline void measure(int many, int call, const Input *in, size_t records, Pace pace) {
     static double took[PASSES][MOST_ROUNDS];
     size_t calls = calls_for(&readers[many - 1], call, in, pace.nanoseconds);
+    int has[PASSES];
+    for (int i = 0; i < many; i++) has[i] = has_turns(&readers[i], call, in);
     for (int round = 0; round < pace.rounds; round++)
         for (int i = 0; i < many; i++) {
             int who = (i + round) % many;
-            took[who][round] = turn(&readers[who], call, in, calls) / (double)calls;
+            if (has[who]) took[who][round] = turn(&readers[who], call, in, calls) / (double)calls;
         }
     for (int i = 0; i < many; i++) {
+        if (!has[i]) continue;
         qsort(took[i], (size_t)pace.rounds, sizeof took[i][0], ascending);
         printf("%s\t%zu\t%zu\t%s\t%s\t%.0f\t%.0f\n", in->name, in->length, records, call_names[call],
                readers[i].name, took[i][0], took[i][pace.rounds / 2]);
