@@ -1,16 +1,16 @@
 -- Tests of a byte, of a character, and of what stands here: what each answer follows from.
 use mathlib.Core.Path.{_≡_, refl, sym, ap, _∙_}
-use mathlib.Core.Bool.{Bool, true, false, not}
+use mathlib.Core.Bool.{Bool, true, false}
 use mathlib.Core.List.{List}
 use mathlib.Core.Logic.{_⊎_, inl, inr}
 use Prim.Native.Nat.{ℕ, _+_, _≤_, _<_}
 use Prim.Native.Char.{code}
 use native.Mathlib.Omega.{arith}
 use native.Mathlib.Decide.{decLt}
-use lib.Dec.{ltb, leb, eqb}
-use borrow.Author.Tests.{lt-ltb, le-ltb, le-leb, lt-leb, ne-eqb, eq-eqb, not-true}
+use lib.Dec.{ltb, eqb}
+use borrow.Author.Tests.{lt-ltb, le-ltb, le-leb, lt-leb, ne-eqb, eq-eqb}
 use Rattle.rules.specs.Parse.{pick, byteAt, codeAt}
-use Rattle.jsx.specs.Byte.{oneOf, _‥_, end}
+use Rattle.jsx.specs.Byte.{oneOf, _‥_}
 use Rattle.jsx.specs.Blank.{spaceSeparator, whiteSpace, lineTerminator, blankChar}
 use Rattle.lex.proofs.Laws.{is-first, is-second}
 use Rattle.lex.proofs.Ranges.{each, each-passes}

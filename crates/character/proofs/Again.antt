@@ -1,14 +1,12 @@
 -- A character, and the same bytes elsewhere: the same character.
 use mathlib.Core.Path.{_≡_, refl, sym, ap, subst, _∙_}
 use mathlib.Core.List.{List}
-use Prim.Native.Nat.{ℕ, zero, suc, _+_, _-_, _*_, _≤_, _<_}
+use Prim.Native.Nat.{ℕ, zero, suc, _+_, _-_, _*_, _<_}
 use native.Mathlib.Omega.{arith}
 use lib.Dec.{ltb}
 use borrow.Author.Tests.{lt-ltb, le-ltb}
-use Rattle.rules.specs.Forest.{Forest, nil, byte, _⋈_}
-use Rattle.rules.specs.Parse.{pick, byteAt, noChar, codeOn, codeAt, parse}
-use Rattle.jsx.specs.Byte.{character}
-use Rattle.lex.specs.Contract.{outOf}
+use Rattle.rules.specs.Forest.{nil, byte, _⋈_}
+use Rattle.rules.specs.Parse.{pick, byteAt, noChar, codeOn, codeAt}
 use Rattle.character.specs.Width.{widthOf}
 use Rattle.character.proofs.Read.{by-first, spelled, character-wide}
 

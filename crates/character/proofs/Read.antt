@@ -1,13 +1,13 @@
 -- What `character` reads where a character stands: as many bytes as its first one says, all within the input.
 use mathlib.Core.Path.{_≡_, refl, sym, ap, subst, _∙_}
-use mathlib.Core.Bool.{Bool, true, false}
+use mathlib.Core.Bool.{true}
 use mathlib.Core.List.{List}
 use Prim.Native.Nat.{ℕ, zero, suc, _+_, _-_, _*_, _≤_, _<_}
 use native.Mathlib.Omega.{arith}
 use native.Mathlib.Decide.{decLt}
-use lib.ListN.{length, List·getD-eq-default}
+use lib.ListN.{length}
 use Rattle.rules.specs.Forest.{Forest, nil, byte, _⋈_}
-use Rattle.rules.specs.Rule.{Test, Rule, step, when, _⨾_}
+use Rattle.rules.specs.Rule.{Rule, step, when, _⨾_}
 use Rattle.rules.specs.Parse.{got, behind, byteAt, noChar, codeOn, codeAt, parse}
 use Rattle.jsx.specs.Byte.{character, _‥_}
 use Rattle.lex.specs.Contract.{outOf}

@@ -9,7 +9,7 @@ use lib.ListN.{length}
 use lib.Dec.{eqb, ltb}
 use borrow.Author.Tests.{eq-eqb, ne-eqb, ltb-true}
 use Rattle.rules.specs.Forest.{Label, node, Forest, nil, byte, group, _⋈_, width, direct, inside}
-use Rattle.rules.specs.Rule.{Test, Verdict, fine, step, many, _⨾_}
+use Rattle.rules.specs.Rule.{Verdict, fine, step, many, _⨾_}
 use Rattle.rules.specs.Parse.{Answer, got, trouble, pick, andThen, behind, byteAt, codeAt, judged, readAt}
 use Rattle.rules.specs.Record.{count}
 use Rattle.rules.proofs.Forests.{count-behind}

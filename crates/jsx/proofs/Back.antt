@@ -9,7 +9,7 @@ use lib.ListN.{length, take, drop, length-append, take-append-drop}
 use lib.Seq.{length-take-le}
 use lib.Dec.{ltb}
 use borrow.Author.Tests.{ltb-true, ltb-false}
-use Rattle.rules.specs.Forest.{Forest, nil, byte, group, _⋈_}
+use Rattle.rules.specs.Forest.{Forest, nil, byte, _⋈_}
 use Rattle.rules.specs.Rule.{Rule}
 use Rattle.rules.specs.Parse.{got, behind, byteAt, repeat, parse, parsed}
 use Rattle.rules.proofs.Got.{trouble-got, false-true}

@@ -1,7 +1,6 @@
 -- Blanks beyond ASCII and the ends of `//` comments, computed: inputs for 1.1 to 1.14 of docs/DECISIONS.md.
 use mathlib.Core.Path.{_≡_, refl}
 use mathlib.Core.List.{List, [], _∷_}
-use Prim.Native.Nat.{ℕ}
 use Prim.Native.String as S
 use Rattle.rules.specs.Record.{row}
 use Rattle.jsx.specs.Reading.{stage, run}

@@ -10,7 +10,7 @@ use lib.Dec.{leb, ltb}
 use borrow.Author.Tests.{leb-true, eqb-false}
 use Rattle.rules.specs.Forest.{Forest, width, inside}
 use Rattle.rules.specs.Rule.{Test, Verdict, Rule}
-use Rattle.rules.specs.Parse.{Answer, got, trouble, pick, andThen, parseAll}
+use Rattle.rules.specs.Parse.{Answer, got, trouble, pick, parseAll}
 use Rattle.rules.specs.Record.{count}
 use Rattle.rules.proofs.Stuck.{NotStuck, refuses-if, refuses-then}
 use Rattle.rules.proofs.Numbers.{JudgedBy, NumberedBy, numbered, computed, Allowed, allowed-all}

@@ -6,13 +6,12 @@ use Prim.Native.Nat.{ℕ, zero, suc, _-_, _≤_, _<_}
 use native.Mathlib.Omega.{arith}
 use lib.Dec.{eqb}
 use borrow.Author.Needs.{needs}
-use borrow.Author.Tests.{eqb-true, eq-eqb, ne-eqb}
+use borrow.Author.Tests.{eqb-true}
 use Rattle.rules.specs.Forest.{node}
 use Rattle.rules.specs.Rule.{Test}
 use Rattle.rules.specs.Parse.{pick, byteAt}
 use Rattle.rules.proofs.Run.{never}
 use Rattle.jsx.specs.Kind as Kind
-use Rattle.jsx.specs.Byte.{_‥_}
 use Rattle.jsx.specs.Name.{has, same, firstIs, dashed, isThis, opensReference, oneName, objectName}
 use Rattle.lex.specs.Contract.{bytesFrom}
 

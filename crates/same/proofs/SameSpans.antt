@@ -20,14 +20,12 @@ use Rattle.jsx.specs.Blank.{blanks}
 use Rattle.jsx.specs.Name.{same, opensName, opensPart, part as namePart}
 use Rattle.lex.specs.Contract.{Past}
 use Rattle.lex.proofs.Ranges.{in-range}
-use Rattle.character.specs.Width.{widthOf}
 use Rattle.character.proofs.CodeSteps.{code-alone}
 use Rattle.character.proofs.WidthSteps.{width-one}
 use Rattle.character.proofs.Read.{by-first}
 use Rattle.word.proofs.PartTests.{opens-ascii, none-opens}
 use Rattle.word.proofs.Again.{part-opens, first-within}
 use Rattle.same.specs.Contract.{ReadsAt, ReadTo, Named, behindColon, behindDot, sameParts}
-use Rattle.same.proofs.Names as Names
 use Rattle.same.proofs.Forms.{bytesTo, colon, dot, Several, Form, one, several, begins, blanks-behind, form-at}
 use Rattle.same.proofs.Equal as Equal
 use Rattle.same.proofs.Equal.{equal}

@@ -1,13 +1,13 @@
 -- Two spans with the same bytes: what a rule reads within the one, it reads within the other.
 use mathlib.Core.Path.{_≡_, refl, sym, ap, subst, _∙_}
 use mathlib.Core.Bool.{Bool, true, false}
-use mathlib.Core.List.{List, [], _∷_}
+use mathlib.Core.List.{List}
 use Prim.Native.Nat.{ℕ, zero, suc, _+_, _-_, _≤_, _<_}
 use Prim.Native.Char.{code}
 use native.Mathlib.Nat.{le-refl}
 use native.Mathlib.Omega.{arith}
 use lib.ListN.{length, getD}
-use lib.Dec.{ltb, leb}
+use lib.Dec.{leb}
 use borrow.Author.Tests.{eq-eqb, lt-ltb, le-ltb, leb-true, eqb-true}
 use Rattle.rules.specs.Forest.{Forest}
 use Rattle.rules.specs.Rule.{Test, Rule, done, step}

@@ -6,7 +6,7 @@ use Prim.Native.Nat.{ℕ, zero, suc, _+_, _-_, _≤_, _<_}
 use native.Mathlib.Omega.{arith}
 use lib.ListN.{length}
 use Rattle.rules.specs.Forest.{Forest, nil, _⋈_}
-use Rattle.rules.specs.Rule.{Rule, whenChar, many, _⇒_∣_}
+use Rattle.rules.specs.Rule.{whenChar, _⇒_∣_}
 use Rattle.rules.specs.Parse.{Answer, got, pick, behind, byteAt, noChar, codeAt, repeat, parse, parsed, readAt}
 use Rattle.rules.proofs.Run.{never, both-read}
 use Rattle.rules.proofs.Got.{trouble-got, got-same}
@@ -17,7 +17,7 @@ use Rattle.jsx.specs.Byte.{character, need}
 use Rattle.jsx.specs.Name.{opensPart, inPart, part as namePart}
 use Rattle.lex.proofs.Laws as Lex
 use Rattle.character.specs.Width.{widthOf}
-use Rattle.character.proofs.Read.{spelled, character-spelled, character-inside, character-wide}
+use Rattle.character.proofs.Read.{spelled, character-spelled, character-wide}
 use Rattle.character.proofs.Again.{Same, code-again, first-again, spelling-again}
 use Rattle.word.specs.Here.{restOfPart}
 use Rattle.word.proofs.PartTests

@@ -2,8 +2,8 @@
 use borrow.Author.Needs.{needs}
 use Rattle.lex.proofs.Runs.{run-nearer}
 use Rattle.word.proofs.RunSteps.{word-end, opens-asked}
-use Rattle.word.proofs.PartSteps.{byte-inside, byte-nearer, first-asked, first-inside, first-fits}
-use Rattle.word.proofs.PartSteps.{beyond-asked, part-fits, part-nearer, common-fits, common-nearer}
+use Rattle.word.proofs.PartSteps.{byte-inside, byte-nearer, first-inside, first-fits}
+use Rattle.word.proofs.PartSteps.{part-fits, part-nearer, common-fits, common-nearer}
 
 pub ruleset asked = (
   needs,
@@ -12,10 +12,8 @@ pub ruleset asked = (
   opens-asked,
   byte-inside,
   byte-nearer,
-  first-asked,
   first-inside,
   first-fits,
-  beyond-asked,
   part-fits,
   part-nearer,
   common-fits,

@@ -6,13 +6,13 @@ use Prim.Native.Nat.{ℕ, suc, _+_, _-_, _*_, _^_, _≤_, _<_}
 use native.Mathlib.Omega.{arith}
 use native.Mathlib.Decide.{decLt}
 use lib.ListN.{length}
-use lib.Dec.{ltb}
 use borrow.Author.Needs.{needs}
 use borrow.Author.Tests.{lt-ltb, le-ltb}
-use Rattle.rules.specs.Forest.{Forest, nil, _⋈_}
-use Rattle.rules.specs.Rule.{Test, Rule, stop, step, when, whenChar, many, _⨾_, _⇒_∣_}
+use Rattle.rules.specs.Forest.{nil}
+use Rattle.rules.specs.Rule.{Rule, stop, whenChar, _⇒_∣_}
 use Rattle.rules.specs.Parse.{got, trouble, pick, andThen, behind, byteAt, noChar, codeAt, parse, parsed, readAt}
 use Rattle.rules.proofs.Run.{never}
+use Rattle.rules.proofs.Got.{false-true}
 use Rattle.jsx.specs.Refusal.{unexpected, endOfInput}
 use Rattle.jsx.specs.Byte.{end, is, _or_, character, need}
 use Rattle.jsx.specs.Ranges.{startRanges, continueRanges}
@@ -27,8 +27,8 @@ use Rattle.character.specs.Width.{widthOf}
 use Rattle.character.proofs.CodeSteps.{code-alone}
 use Rattle.character.proofs.WidthSteps.{width-one}
 use Rattle.character.proofs.Read.{character-inside, character-wide, character-read}
-use Rattle.identifier.specs.Script.{common}
-use Rattle.word.specs.Here.{nameByte, opensBeyond, partWidth, commonWidth, restOfPart}
+use Rattle.identifier.specs.Script.{common, gap}
+use Rattle.word.specs.Here.{nameByte, partWidth, commonWidth, endsPart, restOfPart, EndOfPart}
 use Rattle.word.proofs.Ascii.{opens-low, name-low}
 use Rattle.word.proofs.RunSteps.{opens-inside, past-is}
 use Rattle.word.proofs.PartTests
@@ -56,9 +56,9 @@ module _ {c : ℕ} where
 module _ (s : List ℕ) (at : ℕ) {b : ℕ} (y : b ≡ byteAt s at) where
   module _ (h : b < 0x80) where
     -- A byte of ASCII.
-    pub beyond-not : false ≡ opensBeyond s at
-    unfolding opensBeyond
-    beyond-not = sym (rw (← y, lt-ltb b 0x80 h))
+    pub ends-byte : true ≡ endsPart s at
+    unfolding endsPart
+    ends-byte = sym (rw (← y, lt-ltb b 0x80 h))
 
     part-of-byte : inPart (codeAt s at) ≡ nameByte b
     part-of-byte = ap inPart (sym (code-alone s at y h)) ∙ PartTests.in-ascii b h
@@ -83,10 +83,10 @@ module _ (s : List ℕ) (at : ℕ) {b : ℕ} (y : b ≡ byteAt s at) where
       common-no-byte x = sym (rw (← y, lt-ltb b 0x80 h, sym i ∙ x))
 
   module _ (h : 0x80 ≤ b) {c : ℕ} (z : c ≡ codeAt s at) where
-    -- A character beyond ASCII that opens a part, or does not.
-    pub beyond-by-code : {t : Bool} → t ≡ opensPart c → t ≡ opensBeyond s at
-    unfolding opensBeyond
-    beyond-by-code i = i ∙ ap opensPart z ∙ sym (rw (← y, le-ltb b 0x80 h))
+    -- A character beyond ASCII that stands between names, or does not.
+    pub ends-by-code : {t : Bool} → t ≡ gap c → t ≡ endsPart s at
+    unfolding endsPart
+    ends-by-code i = i ∙ ap gap z ∙ sym (rw (← y, le-ltb b 0x80 h))
 
     module _ {t : Bool} (i : t ≡ common c) where
       -- One of a common script,
@@ -109,23 +109,10 @@ module _ (s : List ℕ) (at : ℕ) {b : ℕ} (y : b ≡ byteAt s at) where
     unfolding partWidth
     width-none x = sym (rw (sym (ap inPart z) ∙ sym i ∙ x))
 
-module _ (s : List ℕ) (at : ℕ) {b : ℕ} (y : b ≡ byteAt s at) {t : Bool} (i : t ≡ opensName b) where
-  -- A byte of ASCII opens the part,
-  pub opens-first : t ≡ true → t ≡ opensPart (codeAt s at)
-  opens-first x =
-      let h = opens-low b (sym i ∙ x) in
-      i ∙ sym (PartTests.opens-ascii b h) ∙ ap opensPart (code-alone s at y h)
-
-  -- or a character beyond ASCII does, or nothing.
-  pub opens-second : t ≡ false → {u : Bool} → u ≡ opensBeyond s at → u ≡ opensPart (codeAt s at)
-  unfolding opensBeyond
-  opens-second x {u} j = go (decLt b 0x80)
-    where
-      go : Dec (b < 0x80) → u ≡ opensPart (codeAt s at)
-      go (yes h) =
-          j ∙ rw (← y, lt-ltb b 0x80 h)
-          (sym (ap opensPart (sym (code-alone s at y h)) ∙ PartTests.opens-ascii b h ∙ sym i ∙ x))
-      go (no h) = j ∙ rw (← y, le-ltb b 0x80 (omega arith))
+-- A part begins here by the code of the character here.
+pub opens-here : (s : List ℕ) (at : ℕ) {c : ℕ} → c ≡ codeAt s at → {t : Bool} → t ≡ opensPart c
+    → t ≡ opensPart (codeAt s at)
+opens-here s at z i = i ∙ ap opensPart z
 
 -- ---- a character of a part
 
@@ -177,14 +164,18 @@ module _ (s : List ℕ) (p : ℕ) where
           part-of (PartTests.common-goes-on (codeAt s p) v) (e ∙ rw (le-ltb (byteAt s p) 0x80 (omega arith), v))
       go (no h) t x false v = absurd (k (e ∙ rw (le-ltb (byteAt s p) 0x80 (omega arith), v)))
 
-  -- Where none of these stands, and a byte of ASCII does, the part ends.
-  common-ends-part : {n : ℕ} → n ≡ commonWidth s p → n ≡ 0 → byteAt s p < 0x80 → inPart (codeAt s p) ≡ false
-  unfolding commonWidth
-  common-ends-part {n} e k h = part-of-byte s p refl h ∙ go (nameByte (byteAt s p)) refl
+  -- Where none of these stands, and a byte of ASCII or what stands between names does, the part ends.
+  common-ends-part : {n : ℕ} → n ≡ commonWidth s p → n ≡ 0 → endsPart s p ≡ true → inPart (codeAt s p) ≡ false
+  unfolding commonWidth endsPart
+  common-ends-part {n} e k h = by (decLt (byteAt s p) 0x80)
     where
-      go : (t : Bool) → nameByte (byteAt s p) ≡ t → nameByte (byteAt s p) ≡ false
-      go true x = absurd (let z : 1 ≡ 0 = sym (e ∙ rw (lt-ltb (byteAt s p) 0x80 h, x)) ∙ k in omega arith)
-      go false x = x
+      go : byteAt s p < 0x80 → (t : Bool) → nameByte (byteAt s p) ≡ t → nameByte (byteAt s p) ≡ false
+      go l true x = absurd (let z : 1 ≡ 0 = sym (e ∙ rw (lt-ltb (byteAt s p) 0x80 l, x)) ∙ k in omega arith)
+      go l false x = x
+
+      by : Dec (byteAt s p < 0x80) → inPart (codeAt s p) ≡ false
+      by (yes l) = part-of-byte s p refl l ∙ go l (nameByte (byteAt s p)) refl
+      by (no l) = PartTests.gap-stops (codeAt s p) (rw (le-ltb (byteAt s p) 0x80 (omega arith)) at h)
 
 -- ---- the rest of a part
 
@@ -237,9 +228,9 @@ module _ {s : List ℕ} {at p : ℕ} (v : Turns s partTurn 0 at p) where
     pub common-goes-on : (n ≡ 0 → ⊥) → Turns s partTurn 0 at (p + n)
     common-goes-on k = goes-on (common-here-part s p e k)
 
-    -- or none, and a byte of ASCII.
-    pub common-stops : n ≡ 0 → {b : ℕ} → b ≡ byteAt s p → b < 0x80 → Past p s restOfPart at 0
-    common-stops k y h = ends (common-ends-part s p e k (omega arith))
+    -- or none, and it ends.
+    pub common-stops : n ≡ 0 → {t : Bool} → t ≡ endsPart s p → t ≡ true → Past p s restOfPart at 0
+    common-stops k i x = ends (common-ends-part s p e k (sym i ∙ x))
 
 -- ---- behind a first byte of ASCII
 
@@ -257,19 +248,24 @@ module _ (s : List ℕ) (p : ℕ) {b : ℕ} (y : b ≡ byteAt s p) {t : Bool} (i
   pub byte-nearer : length s - (p + 1) < length s - p
   byte-nearer = let o = byte-inside in omega arith
 
+-- A part that begins at `at` with a byte of ASCII has come to p.
+pub record Ascii (s : List ℕ) (at p : ℕ) : Type 0 where
+  pub opens : opensName (byteAt s at) ≡ true
+  pub turns : Turns s partTurn 0 (at + 1) p
+
 -- Behind the first byte.
-pub ascii-begins : (s : List ℕ) (at : ℕ) → opensName (byteAt s at) ≡ true → Turns s partTurn 0 (at + 1) (at + 1)
-ascii-begins s at h = let i = opens-inside s at h in turns-begin s partTurn 0 (at + 1) (omega arith)
+pub ascii-begins : (s : List ℕ) (at : ℕ) {b : ℕ} → b ≡ byteAt s at → {t : Bool} → t ≡ opensName b → t ≡ true
+    → Ascii s at (at + 1)
+ascii-begins s at y i x =
+    let o = ap opensName (sym y) ∙ sym i ∙ x in
+    let h = opens-inside s at o in
+    record { opens = o; turns = turns-begin s partTurn 0 (at + 1) (omega arith) }
 
-module _ {s : List ℕ} {at p : ℕ} (v : Turns s partTurn 0 at p)
-    {b : ℕ} (y : b ≡ byteAt s p) {t : Bool} (i : t ≡ nameByte b) where
-  -- One byte more,
-  pub byte-goes-on : t ≡ true → Turns s partTurn 0 at (p + 1)
-  byte-goes-on x = goes-on v (byte-part s p y i x)
-
-  -- or none, and a byte of ASCII.
-  byte-stops : t ≡ false → b < 0x80 → Past p s restOfPart at 0
-  byte-stops x h = ends v (part-of-byte s p y h ∙ sym i ∙ x)
+-- One byte more.
+pub byte-goes-on : {s : List ℕ} {at p : ℕ} → Ascii s at p → {b : ℕ} → b ≡ byteAt s p → {t : Bool} → t ≡ nameByte b
+    → t ≡ true
+    → Ascii s at (p + 1)
+byte-goes-on {s} {at} {p} v y i x = record { opens = v .opens; turns = goes-on (v .turns) (byte-part s p y i x) }
 
 -- ---- the whole part
 
@@ -303,56 +299,61 @@ module _ (s : List ℕ) (at : ℕ) where
       go true = refl
       go false = refl
 
-  module _ (h : opensName (byteAt s at) ≡ true) where
-    -- The first byte is of ASCII,
-    ascii-got : {q : ℕ} → Past q s restOfPart (at + 1) 0 → Past q s namePart at 1
-    ascii-got l =
-        let k = opens-low (byteAt s at) h in
-        let w = width-one {b = byteAt s at} (omega arith) in
-        part-got (sym (opens-first s at refl refl h) ∙ h) (rw (← w) l)
+  -- A part of ASCII.
+  pub ascii-ends : {p : ℕ} → Ascii s at p → {b : ℕ} → b ≡ byteAt s p → {t : Bool} → t ≡ nameByte b → t ≡ false
+      → {c : ℕ} → c ≡ byteAt s p → c < 0x80
+      → Leaf nothing (Got p 0) s namePart at 1
+  ascii-ends {p} v y i x z k =
+      let l = opens-low (byteAt s at) (v .opens) in
+      let n = width-one {b = byteAt s at} (omega arith) in
+      let o : opensPart (codeAt s at) ≡ true =
+      ap opensPart (sym (code-alone s at refl l)) ∙ PartTests.opens-ascii (byteAt s at) l ∙ v .opens in
+      let e : Past p s restOfPart (at + 1) 0 = ends (v .turns) (part-of-byte s p y (omega arith) ∙ sym i ∙ x) in
+      past-is (part-got o (rw (← n) e))
 
-    module _ {p : ℕ} (v : Turns s partTurn 0 (at + 1) p) where
-      -- and so are all the others,
-      pub ascii-ends : {b : ℕ} → b ≡ byteAt s p → {t : Bool} → t ≡ nameByte b → t ≡ false
-          → {c : ℕ} → c ≡ byteAt s p → c < 0x80 → Past p s namePart at 1
-      ascii-ends y i x z k = ascii-got (byte-stops v y i x (omega arith))
+  module _ {t : Bool} (i : t ≡ opensPart (codeAt s at)) where
+    -- None begins here.
+    pub part-none : t ≡ false → EndOfPart 0 s at
+    part-none x = record { some = λ h. false-true (sym i ∙ x) h; none = λ h. refl }
 
-      -- or some are read by a call.
-      pub ascii-behind : {q : ℕ} → Past q s restOfPart p 0 → Past q s namePart at 1
-      ascii-behind l = ascii-got (rest-behind v l)
+    module _ (x : t ≡ true) {b : ℕ} (y : b ≡ byteAt s at) {n : ℕ} (e : n ≡ widthOf b) where
+      -- The first character stands within the input,
+      pub first-inside : at + n ≤ length s
+      first-inside =
+          let k : codeAt s at ≡ noChar → ⊥ = λ z. never (sym PartTests.none-opens ∙ sym (ap opensPart z) ∙ sym i ∙ x) in
+          let l = character-inside s at k in
+          rw (e, y) l
 
-  module _ {b : ℕ} (y : b ≡ byteAt s at) where
-    module _ (h : opensPart (codeAt s at) ≡ true) where
-      -- The first character is of ASCII: its byte opens a name.
-      pub first-asked : b < 0x80 → opensName (byteAt s at) ≡ true
-      first-asked k =
-          ap opensName (sym y) ∙ sym (PartTests.opens-ascii b k) ∙ ap opensPart (code-alone s at y k) ∙ h
+      -- and the part goes on behind it.
+      pub first-got : {q : ℕ} → Past q s restOfPart (at + n) 0 → EndOfPart q s at
+      first-got {q} l =
+          let m = subst (λ (m : ℕ). Past q s restOfPart (at + m) 0) (e ∙ ap widthOf y) l in
+          record { some = λ h. part-got h m; none = λ h. false-true h (sym i ∙ x) }
 
-      module _ {n : ℕ} (e : n ≡ widthOf b) where
-        -- It stands within the input,
-        pub first-inside : at + n ≤ length s
-        first-inside =
-            let k : codeAt s at ≡ noChar → ⊥ = λ z. never (sym PartTests.none-opens ∙ sym (ap opensPart z) ∙ h) in
-            let i = character-inside s at k in
-            rw (e, y) i
+      -- The sum that passes it fits.
+      pub first-fits : length s * 1 < 2 ^ 63 → at + n < 2 ^ 64
+      first-fits l = let j = first-inside in omega arith
 
-        -- and the part goes on behind it.
-        pub first-got : {q : ℕ} → Past q s restOfPart (at + n) 0 → Past q s namePart at 1
-        first-got {q} l = part-got h (subst (λ (m : ℕ). Past q s restOfPart (at + m) 0) (e ∙ ap widthOf y) l)
+  module _ {e : ℕ} (l : EndOfPart e s at) where
+    -- It was seen to begin.
+    pub end-seen : opensPart (codeAt s at) ≡ true → Past e s namePart at 1
+    end-seen h = l .some h
 
-        -- The sum that passes it fits.
-        pub first-fits : length s * 1 < 2 ^ 63 → at + n < 2 ^ 64
-        first-fits l = let i = first-inside in omega arith
+    -- It ends somewhere,
+    pub part-found : (e ≡ 0 → ⊥) → Past e s namePart at 1
+    part-found k = go (opensPart (codeAt s at)) refl
+      where
+        go : (b : Bool) → opensPart (codeAt s at) ≡ b → Past e s namePart at 1
+        go true h = l .some h
+        go false h = absurd (k (l .none h))
 
-    module _ {t : Bool} (i : t ≡ opensName b) (x : t ≡ false) {u : Bool} (j : u ≡ opensBeyond s at) where
-      -- A part begins here with a character beyond ASCII,
-      pub beyond-asked : u ≡ true → opensPart (codeAt s at) ≡ true
-      beyond-asked w = sym (opens-second s at y i x j) ∙ w
-
-      -- or does not begin.
-      pub part-fails : u ≡ false → {r : Ans} → Leaf nothing r s need at 0 → Leaf nothing r s namePart at 1
-      part-fails w l =
-          Lex.leaf-refuses l (part-no (sym (opens-second s at y i x j) ∙ w)) (Lex.need-fails s at)
+    -- or does not begin.
+    pub part-fails : e ≡ 0 → {r : Ans} → Leaf nothing r s need at 0 → Leaf nothing r s namePart at 1
+    part-fails k m = Lex.leaf-refuses m (part-no (go (opensPart (codeAt s at)) refl)) (Lex.need-fails s at)
+      where
+        go : (b : Bool) → opensPart (codeAt s at) ≡ b → opensPart (codeAt s at) ≡ false
+        go true h = let f = l .some h .far in absurd (omega arith)
+        go false h = h
 
 -- ---- sums and loops
 
@@ -379,18 +380,17 @@ pub ruleset part-steps = (
   in-by-byte,
   opens-by-table,
   in-by-table,
-  beyond-not,
+  ends-byte,
   width-byte,
   common-byte,
   width-no-byte,
   common-no-byte,
-  beyond-by-code,
+  ends-by-code,
   common-here,
   common-none,
   width-here,
   width-none,
-  opens-first,
-  opens-second,
+  opens-here,
   rest-begins,
   rest-behind,
   part-goes-on,
@@ -400,8 +400,10 @@ pub ruleset part-steps = (
   ascii-begins,
   byte-goes-on,
   ascii-ends,
-  ascii-behind,
+  part-none,
   first-got,
-  past-is,
+  end-seen,
+  part-found,
   part-fails,
+  past-is,
 )

@@ -1,24 +1,23 @@
 -- Characters of a part of a name: of ASCII by their bytes, beyond it by the tables.
 use mathlib.Core.Path.{_≡_, refl, sym, ap, _∙_}
 use mathlib.Core.Bool.{Bool, true, false, not}
-use mathlib.Core.List.{List}
-use Prim.Native.Nat.{ℕ, _+_, _≤_, _<_}
+use Prim.Native.Nat.{ℕ, _≤_, _<_}
 use Prim.Native.Char.{code}
 use native.Mathlib.Omega.{arith}
 use native.Mathlib.Decide.{decLt}
-use lib.Dec.{ltb, eqb}
-use borrow.Author.Needs.{needs}
-use borrow.Author.Tests.{lt-ltb, le-ltb, ne-eqb, not-true}
-use Rattle.rules.specs.Parse.{pick, byteAt, noChar, codeAt}
+use lib.Dec.{eqb}
+use borrow.Author.Tests.{le-ltb, ne-eqb, not-true}
+use Rattle.rules.specs.Parse.{pick, noChar}
 use Rattle.rules.proofs.Run.{never}
+use Rattle.rules.proofs.Got.{false-true}
 use Rattle.jsx.specs.Byte.{letter, digit, is, _or_}
 use Rattle.jsx.specs.Ranges.{startRanges, continueRanges}
 use Rattle.jsx.specs.Unicode.{inRanges, idStart, idContinue}
 use Rattle.jsx.specs.Name.{opensName, inWord, opensPart, inPart}
 use Rattle.jsx.proofs.Unicode.{opens-goes-on}
 use Rattle.lex.proofs.Ranges.{each, each-passes}
-use Rattle.identifier.specs.Script.{european, eastAsian, common}
-use Rattle.identifier.proofs.ScriptSteps.{common-starts}
+use Rattle.identifier.specs.Script.{greek, european, eastAsian, common, gap}
+use Rattle.identifier.proofs.ScriptSteps.{common-starts, gap-continues-none}
 use Rattle.word.specs.Here.{nameByte}
 
 -- ---- of ASCII
@@ -75,7 +74,7 @@ module _ (c : ℕ) (h : 0x80 ≤ c) where
 
 -- A letter of a common script is beyond ASCII, and goes on.
 pub common-goes-on : (c : ℕ) → common c ≡ true → inPart c ≡ true
-unfolding each not common european eastAsian
+unfolding each not common greek european eastAsian
 common-goes-on c h = go (decLt c 0x80)
   where
     go : Dec (c < 0x80) → inPart c ≡ true
@@ -83,6 +82,21 @@ common-goes-on c h = go (decLt c 0x80)
         never
         (sym (not-true (common c) (each-passes (λ b. not (common b)) 0 0x80 refl c (omega arith) (omega arith))) ∙ h)
     go (no k) = opens-goes-on c (opens-wide c (omega arith) ∙ common-starts c h)
+
+-- What stands between names does not go on.
+pub gap-stops : (c : ℕ) → gap c ≡ true → inPart c ≡ false
+unfolding each not gap
+gap-stops c h = go (decLt c 0x80)
+  where
+    none : (k : ℕ) → gap k ≡ false → eqb c k ≡ false
+    none k e = ne-eqb c k (λ x. false-true (ap gap x ∙ e) h)
+
+    go : Dec (c < 0x80) → inPart c ≡ false
+    go (yes k) =
+        never
+        (sym (not-true (gap c) (each-passes (λ b. not (gap b)) 0 0x80 refl c (omega arith) (omega arith))) ∙ h)
+    go (no k) =
+        in-wide c (omega arith) ∙ rw (gap-continues-none c h, none 0x200C refl, none 0x200D refl)
 
 -- ---- where no character stands
 

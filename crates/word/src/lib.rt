@@ -9,7 +9,7 @@ ghost use Rattle.jsx.specs.Ranges.{continueRanges};
 ghost use Rattle.jsx.specs.Name.{opensName, inWord, opensPart, inPart, dashed, part as namePart};
 ghost use Rattle.jsx.specs.Word.{word};
 ghost use Rattle.lex.specs.Contract.{Leaf, Past, nothing, bytesFrom};
-ghost use Rattle.word.specs.Here.{nameByte, opensBeyond, commonWidth, partWidth, restOfPart};
+ghost use Rattle.word.specs.Here.{nameByte, commonWidth, partWidth, endsPart, restOfPart, EndOfPart};
 use identifier::ranges::CONTINUE;
 use lex::Ans;
 use lex::bytes::DASH;
@@ -77,23 +77,12 @@ fn in_code(c: u32, table: &[u32]) -> bool
     identifier::is_identifier_part_unicode(table, c)
 }
 
-// Whether a part of a name begins here with a character beyond ASCII.
-fn opens_beyond(s: &[u8], at: usize) -> bool
-    requires { ⌜ at ≤ length (now s) ⌝ }
-    ensures { λ r. ⌜ r ≡ opensBeyond (now (s .entry)) at ⌝ }
-{
-    if lex::byte(s, at) < WIDE {
-        return false;
-    }
-    opens_code(character::code_at(s, at))
-}
-
 // Whether a part of a name begins here.
 pub fn opens_part(s: &[u8], at: usize) -> bool
     requires { ⌜ at ≤ length (now s) ⌝ }
     ensures { λ r. ⌜ r ≡ opensPart (codeAt (now (s .entry)) at) ⌝ }
 {
-    opens_name(lex::byte(s, at)) || opens_beyond(s, at)
+    opens_code(character::code_at(s, at))
 }
 
 // How many bytes the character of a name has that stands here, if it is of ASCII or of a common script; else 0.
@@ -149,7 +138,19 @@ fn end_of_rare(s: &[u8], at: usize) -> usize
     end_by_table(s, at, &CONTINUE)
 }
 
-// The end of a part from `at` within it on, where characters beyond ASCII may stand.
+// Whether a part that did not go on by a common character ends here, as far as no table tells: a byte of ASCII stands
+// here, or what stands between names.
+fn ends_part(s: &[u8], at: usize) -> bool
+    requires { ⌜ at ≤ length (now s) ⌝ }
+    ensures { λ r. ⌜ r ≡ endsPart (now (s .entry)) at ⌝ }
+{
+    if lex::byte(s, at) < WIDE {
+        return true;
+    }
+    identifier::is_gap(character::code_at(s, at))
+}
+
+// The end of a part from `at` within it on.
 fn end_beyond(s: &[u8], at: usize) -> usize
     requires { ⌜ at ≤ length (now s) ⌝ }
     ensures { λ r. ⌜ Past r (now (s .entry)) restOfPart at 0 ⌝ }
@@ -162,25 +163,21 @@ fn end_beyond(s: &[u8], at: usize) -> usize
         }
         p = p + n;
     }
-    if lex::byte(s, p) < WIDE {
+    if ends_part(s, p) {
         return p;
     }
     end_of_rare(s, p)
 }
 
-// The end of a part whose first character, of ASCII, was seen.
-fn end_of_ascii(s: &[u8], at: usize) -> usize
-    requires { ⌜ (at ≤ length (now s)) × (opensName (byteAt (now s) at) ≡ true) ⌝ }
-    ensures { λ r. ⌜ Past r (now (s .entry)) namePart at 1 ⌝ }
+// The end of the part that begins here; 0 where none does.
+fn end_of_part(s: &[u8], at: usize) -> usize
+    requires { ⌜ at ≤ length (now s) ⌝ }
+    ensures { λ r. ⌜ EndOfPart r (now (s .entry)) at ⌝ }
 {
-    let mut p = at + 1;
-    while in_name(lex::byte(s, p)) {
-        p = p + 1;
+    if opens_part(s, at) {
+        return end_beyond(s, at + character::width(lex::byte(s, at)));
     }
-    if lex::byte(s, p) < WIDE {
-        return p;
-    }
-    end_beyond(s, p)
+    0
 }
 
 // A part of a name, whose first character was seen: its end.
@@ -188,25 +185,28 @@ pub fn continue_lex_jsx_identifier(s: &[u8], at: usize) -> usize
     requires { ⌜ (at ≤ length (now s)) × (opensPart (codeAt (now s) at) ≡ true) ⌝ }
     ensures { λ r. ⌜ Past r (now (s .entry)) namePart at 1 ⌝ }
 {
-    let b = lex::byte(s, at);
-    if b < WIDE {
-        return end_of_ascii(s, at);
-    }
-    end_beyond(s, at + character::width(b))
+    end_of_part(s, at)
 }
 
-// A part of a name; the number is 0.
+// A part of a name; the number is 0. One of ASCII is read here, any other by `end_of_part`, from its first byte on.
 pub fn parse_jsx_identifier(s: &[u8], at: usize) -> Ans
     requires { ⌜ at ≤ length (now s) ⌝ }
     ensures { λ r. ⌜ Leaf nothing r (now (s .entry)) namePart at 1 ⌝ }
 {
     if opens_name(lex::byte(s, at)) {
-        return Ans::Got(end_of_ascii(s, at), 0);
+        let mut p = at + 1;
+        while in_name(lex::byte(s, p)) {
+            p = p + 1;
+        }
+        if lex::byte(s, p) < WIDE {
+            return Ans::Got(p, 0);
+        }
     }
-    if opens_beyond(s, at) {
-        return Ans::Got(continue_lex_jsx_identifier(s, at), 0);
+    let e = end_of_part(s, at);
+    if e == 0 {
+        return lex::unexpected(s, at);
     }
-    lex::unexpected(s, at)
+    Ans::Got(e, 0)
 }
 
 // 1 where a dash is among the bytes from a to b, else 0.

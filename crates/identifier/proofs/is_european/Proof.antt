@@ -24,9 +24,6 @@ within-requires-6 c κs = search test-steps
 within-requires-7 : tie.Need-within-requires-7
 within-requires-7 c κs = search test-steps
 
-within-requires-8 : tie.Need-within-requires-8
-within-requires-8 c κs = search test-steps
-
 returns : tie.Need-returns
 unfolding european
 returns c = search test-steps
@@ -49,15 +46,19 @@ returns-5 c = search test-steps
 
 returns-6 : tie.Need-returns-6
 unfolding european
-returns-6 c = search test-steps depth 10
+returns-6 c = search test-steps depth 12
 
 returns-7 : tie.Need-returns-7
 unfolding european
-returns-7 c = search test-steps depth 10
+returns-7 c = search test-steps depth 12
 
 returns-8 : tie.Need-returns-8
 unfolding european
-returns-8 c = search test-steps depth 10
+returns-8 c = search test-steps depth 12
+
+returns-9 : tie.Need-returns-9
+unfolding european
+returns-9 c = search test-steps depth 12
 
 pub is-european-spec : {M : Type 1} → statement M
 is-european-spec =
@@ -70,7 +71,6 @@ is-european-spec =
     within-requires-5
     within-requires-6
     within-requires-7
-    within-requires-8
     returns
     returns-2
     returns-3
@@ -78,4 +78,5 @@ is-european-spec =
     returns-5
     returns-6
     returns-7
-    returns-8)
+    returns-8
+    returns-9)

@@ -27,8 +27,8 @@ loop-less c = search asked
 loop-again : tie.Need-loop-again Inv-loop μ-loop
 loop-again c = search part-steps
 
-byte-requires : tie.Need-byte-requires Inv-loop μ-loop
-byte-requires c κs = search asked
+ends-part-requires : tie.Need-ends-part-requires Inv-loop μ-loop
+ends-part-requires c κs = search asked
 
 returns : tie.Need-returns Inv-loop μ-loop
 returns c = search part-steps
@@ -50,7 +50,7 @@ end-beyond-spec =
     add-p
     loop-less
     loop-again
-    byte-requires
+    ends-part-requires
     returns
     end-of-rare-requires
     returns-2)
