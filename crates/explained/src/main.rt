@@ -1,4 +1,5 @@
-// What `explain` tells of some stages: each refusal, places on several lines, tabs, wide characters, long lines, trees.
+// What `explain` tells of some stages: each refusal, places on several lines, tabs, wide characters, names
+// beyond ASCII, long lines, trees.
 use libc::STDOUT_FILENO;
 use table::ROW_WORDS;
 
@@ -43,6 +44,18 @@ fn bytes() {
     show(b"<a>\x01}</a>");
 }
 
+// Names in the author's script: Korean has two columns, and the two letters of the second stage look the same.
+fn names() {
+    show(b"<\xed\x95\x9c\xea\xb8\x80>\n  hi\n</\xed\x95\x9c.\xea\xb8\x80>");
+    show(b"<\xe2\x84\xab></\xc3\x85>");
+    show(b"<\xed\x95\x9c \xc3\x97='1'/>");
+    show(b"<\xed\x95\x9c>{\xea\xb8\x80}</\xed\x95\x9c>");
+    show(b"<\xed\x95\x9c.\xce\xbb-/>");
+    show(
+        b"<\xed\x95\x9c \xce\xbb='1' \xce\xb1:\xce\xb2-b>\n  <\xce\xb4-/><a\xce\xb4.\xce\xb5/>\n</\xed\x95\x9c>",
+    );
+}
+
 fn long_lines() {
     show(
         b"<a>0123456789012345678901234567890123456789012345678901234567890123456789012345678901234567890123456789}012345678901234567890123456789012345678901234567890123456789012345678901234567890123456789</a>",
@@ -77,6 +90,7 @@ fn main() {
     tokens();
     unclosed();
     bytes();
+    names();
     long_lines();
     limits();
     trees();
