@@ -11,6 +11,10 @@
 //! them. A byte order mark in front of a stage is one of them: it is not taken off, and offsets count its bytes. In
 //! a run it is text.
 //!
+//! **Names** of elements and attributes may be in any script: a part begins with a character of Unicode's ID_Start, `$`
+//! or `_`, then come those of ID_Continue, `$`, U+200C, U+200D and `-`; of version 17.0. Two names are equal if their
+//! bytes are: none is normalised. Names in braces are ASCII.
+//!
 //! ```
 //! use lorikvar::{read_stage, Kind, Refusal, ROW_WORDS};
 //!
@@ -21,6 +25,9 @@
 //! assert!(view.is_named("view"));
 //! assert_eq!(view.attribute("eye").unwrap().value().unwrap().unquoted(), Some("left"));
 //! assert_eq!(view.content().next().unwrap().text(), "hi");
+//!
+//! let table = read_stage("<무대>안녕</무대>".as_bytes(), &mut words)?;
+//! assert!(table.outermost().next().unwrap().is_named("무대"));
 //!
 //! let refusal = read_stage(b"<left></right>", &mut words).unwrap_err();
 //! assert_eq!(refusal.number(), 7);

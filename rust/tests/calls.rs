@@ -171,6 +171,11 @@ fn blanks_of_ecma_262_are_passed() {
     refused_as_stage("<a/>//\u{2028}<b/>".as_bytes(), Refusal::Adjacent { less });
 }
 
+/// ECMA-262's white space and line terminators: Unicode's White_Space but for two characters.
+fn is_blank(character: char) -> bool {
+    character == '\u{FEFF}' || (character.is_whitespace() && character != '\u{85}')
+}
+
 #[test]
 fn all_25_blanks_and_no_other_character() {
     let blank = |character: &char| check_stage(format!("<a/{character}>").as_bytes()) == Ok(3);
@@ -178,11 +183,7 @@ fn all_25_blanks_and_no_other_character() {
         .filter(|character| *character != '>')
         .filter(blank)
         .collect();
-    // White_Space of Unicode is ECMA-262's but for two characters.
-    let mut expected: Vec<char> = ('\0'..=char::MAX)
-        .filter(|character| character.is_whitespace() && *character != '\u{85}')
-        .collect();
-    expected.push('\u{FEFF}');
+    let expected: Vec<char> = ('\0'..=char::MAX).filter(|c| is_blank(*c)).collect();
     assert_eq!(found, expected);
     assert_eq!(found.len(), 25);
 }
@@ -206,6 +207,184 @@ fn blanks_in_texts_are_text() {
     let texts: Vec<&str> = owned.table().outermost().map(|text| text.text()).collect();
     assert_eq!(texts, ["\u{FEFF}\u{2028}"]);
     refused_as_run("<\u{A0}/a>".as_bytes(), unexpected(0, 0));
+}
+
+/// Request 7 of document 02: names in the author's script, in every place of a name.
+#[test]
+fn names_in_any_script_are_read() {
+    assert_eq!(
+        rows_of_stage("<한 λ:글-b é='1'>hi</한>"),
+        [
+            [1, 0, 29, NO_PARENT, 13, 1, 0],
+            [18, 0, 21, 0, 10, 0, 1],
+            [4, 1, 4, 1, 3, 0, 2],
+            [8, 5, 13, 1, 7, 0, 2],
+            [6, 5, 13, 3, 7, 0, 3],
+            [16, 5, 7, 4, 6, 0, 4],
+            [16, 8, 13, 4, 7, 1, 4],
+            [8, 14, 20, 1, 10, 0, 2],
+            [16, 14, 16, 7, 9, 0, 3],
+            [10, 17, 20, 7, 10, 0, 3],
+            [14, 21, 23, 0, 11, 0, 1],
+            [17, 23, 29, 0, 13, 0, 1],
+            [4, 25, 28, 11, 13, 0, 2],
+        ]
+    );
+    assert_eq!(
+        rows_of_stage("<é-a.λ.한/>"),
+        [
+            [1, 0, 14, NO_PARENT, 6, 0, 0],
+            [18, 0, 14, 0, 6, 0, 1],
+            [7, 1, 12, 1, 6, 0, 2],
+            [4, 1, 5, 2, 4, 1, 3],
+            [16, 6, 8, 2, 5, 0, 3],
+            [16, 9, 12, 2, 6, 0, 3],
+        ]
+    );
+    assert_eq!(check_run("{<é λ={b}/>}".as_bytes()), Ok(9));
+}
+
+/// A first character beyond ASCII makes a name of one part with no dash a reference.
+#[test]
+fn kinds_of_names_beyond_ascii() {
+    for (name, kind, extra) in [
+        ("한", 4, 0),
+        ("λ-", 3, 1),
+        ("aλ", 3, 0),
+        ("Aλ", 4, 0),
+        ("_λ", 4, 0),
+        ("λ-A", 3, 1),
+        ("this\u{200D}", 3, 0),
+        ("a\u{301}\u{200C}\u{200D}", 3, 0),
+        ("\u{33479}", 4, 0),
+    ] {
+        let end = 1 + name.len() as u32;
+        let row = [kind, 1, end, 1, 3, extra, 2];
+        assert_eq!(rows_of_stage(&format!("<{name}/>"))[2], row, "{name}");
+    }
+}
+
+/// Which characters a list of the folder `unicode` has, by their numbers.
+fn listed(ranges: &str) -> Vec<bool> {
+    let number = |digits| usize::from_str_radix(digits, 16).unwrap();
+    let mut has = vec![false; char::MAX as usize + 1];
+    for (low, high) in ranges.lines().filter_map(|line| line.split_once(' ')) {
+        has[number(low)..=number(high)].fill(true);
+    }
+    has
+}
+
+/// What is none of a name's is refused at its first byte; a blank is passed, and then `blank` is the answer.
+fn answer_of_no_name(character: char, input: &str, at: usize, blank: Result<usize, Refusal>) {
+    let answer = check_stage(input.as_bytes());
+    if is_blank(character) {
+        assert_eq!(answer, blank, "{character:?}");
+    } else if character.is_ascii() {
+        assert!(answer.is_err(), "{character:?}");
+    } else {
+        assert_eq!(answer, Err(unexpected(at, at)), "{character:?}");
+    }
+}
+
+#[test]
+fn every_character_as_the_first_of_a_name() {
+    let start = listed(include_str!("../../unicode/id_start.txt"));
+    for character in '\0'..=char::MAX {
+        let input = format!("<{character}/>");
+        if matches!(character, '$' | '_') || start[character as usize] {
+            assert_eq!(check_stage(input.as_bytes()), Ok(3), "{character:?}");
+        } else {
+            let slash = 1 + character.len_utf8();
+            answer_of_no_name(character, &input, 1, Err(unexpected(slash, slash)));
+        }
+    }
+}
+
+/// In a closing tag no attribute can begin, so a character is the name's or is refused.
+#[test]
+fn every_character_as_a_later_one_of_a_name() {
+    let later = listed(include_str!("../../unicode/id_continue.txt"));
+    for character in '\0'..=char::MAX {
+        let input = format!("<a{character}></a{character}>");
+        let own = matches!(character, '$' | '-' | '\u{200C}' | '\u{200D}');
+        if own || later[character as usize] {
+            assert_eq!(check_stage(input.as_bytes()), Ok(5), "{character:?}");
+        } else {
+            answer_of_no_name(character, &input, 2, Ok(5));
+        }
+    }
+}
+
+/// Request 7 of document 02: 3 at the first byte, wherever a name may stand; names of expressions stay ASCII.
+#[test]
+fn what_begins_no_name() {
+    refused_as_stage("<a \u{301}/>".as_bytes(), unexpected(3, 3));
+    refused_as_stage("<a.\u{301}/>".as_bytes(), unexpected(3, 3));
+    refused_as_stage("<a:\u{200D}/>".as_bytes(), unexpected(3, 3));
+    refused_as_stage("<a></×>".as_bytes(), unexpected(5, 5));
+    refused_as_stage("<a b='c'\u{301}/>".as_bytes(), unexpected(8, 8));
+    refused_as_stage("<é\\u0061/>".as_bytes(), unexpected(3, 3));
+    refused_as_stage("<a>{é}</a>".as_bytes(), unexpected(4, 4));
+    refused_as_stage("<a>{aé}</a>".as_bytes(), unexpected(5, 5));
+    refused_as_stage("<a>{a.é}</a>".as_bytes(), unexpected(6, 6));
+    refused_as_stage("<a>{1é}</a>".as_bytes(), unexpected(5, 5));
+    refused_as_run("{ifé}".as_bytes(), unexpected(1, 1));
+}
+
+/// Request 7 of document 02: composed or not, in either case, with U+200D or without it.
+#[test]
+fn closing_names_are_compared_byte_for_byte() {
+    for (one, other) in [
+        ("\u{E9}", "e\u{301}"),
+        ("\u{212B}", "\u{C5}"),
+        ("\u{F900}", "\u{8C48}"),
+        ("\u{D55C}", "\u{1112}\u{1161}\u{11AB}"),
+        ("\u{C9}", "\u{E9}"),
+        ("a", "a\u{200D}"),
+    ] {
+        for (open, close) in [(one, other), (other, one)] {
+            let end = 1 + open.len();
+            let refusal = Refusal::NamesDiffer {
+                opening: span(1, end),
+                closing: span(end + 3, end + 3 + close.len()),
+            };
+            refused_as_stage(format!("<{open}></{close}>").as_bytes(), refusal);
+            let same = format!("<{open}></{open}>");
+            assert_eq!(check_stage(same.as_bytes()), Ok(5), "{open}");
+        }
+    }
+}
+
+#[test]
+fn other_refusals_at_names_beyond_ascii() {
+    refused_as_stage(
+        "<></é>".as_bytes(),
+        Refusal::FragmentClosedByName {
+            opening: span(0, 2),
+            closing: span(4, 6),
+        },
+    );
+    refused_as_stage(
+        "<é></>".as_bytes(),
+        Refusal::ElementClosedByFragment {
+            opening: span(1, 3),
+            closing: span(4, 7),
+        },
+    );
+    let part = span(3, 6);
+    refused_as_stage("<a.é-/>".as_bytes(), Refusal::DashAfterDot { part });
+    refused_as_stage("<é".as_bytes(), Refusal::EndOfInput { at: 3 });
+    refused_as_stage(b"<\xED\x95", Refusal::NotUtf8 { at: 1 });
+    let deep = "<a>".repeat(MOST_DEPTH);
+    let less = deep.len();
+    refused_as_stage(
+        format!("{deep}<é").as_bytes(),
+        Refusal::TooDeep { at: less },
+    );
+    refused_as_stage(
+        format!("{deep}<\u{301}").as_bytes(),
+        unexpected(less + 1, less + 1),
+    );
 }
 
 #[test]

@@ -1,5 +1,5 @@
-//! The stored list of items and answers of `crates/batch`, through this crate: every answer is the stored one,
-//! and every table that is read has a tree's shape.
+//! The stored lists of items and answers of `crates/batch` and `crates/borders`, through this crate: every answer
+//! is the stored one, and every table that is read has a tree's shape.
 
 use lorikvar::{
     check_run, check_stage, read_run, read_stage, Refusal, Table, MOST_BYTES, NO_PARENT, ROW_WORDS,
@@ -9,9 +9,10 @@ use std::path::PathBuf;
 
 const RECORDS: usize = 131_072;
 
-fn stored(name: &str) -> Vec<u8> {
+fn stored(list: &str, name: &str) -> Vec<u8> {
     let path = PathBuf::from(env!("CARGO_MANIFEST_DIR"))
-        .join("../crates/batch")
+        .join("../crates")
+        .join(list)
         .join(name);
     fs::read(&path).unwrap_or_else(|error| panic!("{}: {error}", path.display()))
 }
@@ -70,9 +71,18 @@ fn form(answer: &Result<Table<'_, '_>, Refusal>) -> String {
 
 #[test]
 fn every_answer_is_the_stored_one() {
+    answers_are_stored("batch");
+}
+
+#[test]
+fn every_answer_at_the_borders_of_name_characters_is_the_stored_one() {
+    answers_are_stored("borders");
+}
+
+fn answers_are_stored(list: &str) {
     let (input, answers) = (
-        stored("stdin"),
-        String::from_utf8(stored("stdout")).unwrap(),
+        stored(list, "stdin"),
+        String::from_utf8(stored(list, "stdout")).unwrap(),
     );
     let mut words = vec![0; RECORDS * ROW_WORDS];
     let mut rest = answers.as_str();

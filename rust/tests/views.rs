@@ -168,6 +168,19 @@ fn names_and_their_parts() {
 }
 
 #[test]
+fn names_beyond_ascii_are_looked_up_by_their_bytes() {
+    let owned = read_stage_vec("<한.λ \u{E9}='1' α:β-b/>".as_bytes()).unwrap();
+    let element = outermost(&owned);
+    assert_eq!(texts(element.name_parts()), ["한", "λ"]);
+    assert!(element.is_named("한.λ") && !element.is_named("한:λ") && !element.is_named("한"));
+    let value = element.attribute("\u{E9}").and_then(|found| found.value());
+    assert_eq!(value.and_then(|value| value.unquoted()), Some("1"));
+    assert_eq!(element.attribute("e\u{301}"), None);
+    let namespaced = element.attribute("α:β-b").unwrap();
+    assert_eq!(texts(namespaced.name_parts()), ["α", "β-b"]);
+}
+
+#[test]
 fn a_backslash_is_a_byte_of_the_string() {
     let owned = read_stage_vec(b"<a b=\"\\\"/>").unwrap();
     let value = outermost(&owned).attribute("b").unwrap().value().unwrap();

@@ -9,7 +9,7 @@
 /* As large as a page of any machine that runs these tests, so that a whole number of pages is shut. */
 #define PAGE ((size_t)65536)
 
-static const char stage[] = "<v b='1' {...p}>hi{c(d)[0]}<></>\xC3\xA9</v>";
+static const char stage[] = "<\xED\x95\x9C \xF0\x9E\xA4\x80='1' {...p}>hi{c(d)[0]}<></>\xC3\xA9</\xED\x95\x9C>";
 
 #define LENGTH (sizeof stage - 1)
 #define ROWS 17

@@ -59,6 +59,43 @@ static const struct refused cases[] = {
     {'s', "<a/>\xE2\x80\x8B", LORIKVAR_REFUSAL_AFTER_STAGE, {4, 4, 0, 0}},
     {'s', "<a\xE2\x80", LORIKVAR_REFUSAL_NOT_UTF8, {2, 2, 0, 0}},
     {'r', "<\xC2\xA0/a>", LORIKVAR_REFUSAL_UNEXPECTED, {0, 0, 0, 0}},
+    /* A character that is none of a name's, or that cannot come first, is 3 at its first byte. */
+    {'s', "<\xC3\x97/>", LORIKVAR_REFUSAL_UNEXPECTED, {1, 1, 0, 0}},
+    {'s', "<a\xC3\x97/>", LORIKVAR_REFUSAL_UNEXPECTED, {2, 2, 0, 0}},
+    {'s', "<\xF0\x9F\x98\x80/>", LORIKVAR_REFUSAL_UNEXPECTED, {1, 1, 0, 0}},
+    {'s', "<\xEE\x80\x80/>", LORIKVAR_REFUSAL_UNEXPECTED, {1, 1, 0, 0}},
+    {'s', "<a\xE2\x80\x90" "b/>", LORIKVAR_REFUSAL_UNEXPECTED, {2, 2, 0, 0}},
+    {'s', "<\xCC\x81/>", LORIKVAR_REFUSAL_UNEXPECTED, {1, 1, 0, 0}},
+    {'s', "<\xE2\x80\x8D/>", LORIKVAR_REFUSAL_UNEXPECTED, {1, 1, 0, 0}},
+    {'s', "<a \xCC\x81/>", LORIKVAR_REFUSAL_UNEXPECTED, {3, 3, 0, 0}},
+    {'s', "<a.\xCC\x81/>", LORIKVAR_REFUSAL_UNEXPECTED, {3, 3, 0, 0}},
+    {'s', "<a:\xCC\x81/>", LORIKVAR_REFUSAL_UNEXPECTED, {3, 3, 0, 0}},
+    {'s', "<a></\xCC\x81>", LORIKVAR_REFUSAL_UNEXPECTED, {5, 5, 0, 0}},
+    {'s', "<a b='c'\xCC\x81/>", LORIKVAR_REFUSAL_UNEXPECTED, {8, 8, 0, 0}},
+    {'s', "<\xC3\xA9\\u0061/>", LORIKVAR_REFUSAL_UNEXPECTED, {3, 3, 0, 0}},
+    {'r', "<\xCE\xBB \xC2\xB2/>", LORIKVAR_REFUSAL_UNEXPECTED, {4, 4, 0, 0}},
+    /* Names of expressions are ASCII. */
+    {'s', "<a>{\xC3\xA9}</a>", LORIKVAR_REFUSAL_UNEXPECTED, {4, 4, 0, 0}},
+    {'s', "<a>{a\xC3\xA9}</a>", LORIKVAR_REFUSAL_UNEXPECTED, {5, 5, 0, 0}},
+    {'s', "<a>{a.\xC3\xA9}</a>", LORIKVAR_REFUSAL_UNEXPECTED, {6, 6, 0, 0}},
+    {'s', "<a>{1\xC3\xA9}</a>", LORIKVAR_REFUSAL_UNEXPECTED, {5, 5, 0, 0}},
+    {'s', "<a>{if\xC3\xA9}</a>", LORIKVAR_REFUSAL_UNEXPECTED, {4, 4, 0, 0}},
+    /* Closing names are compared byte for byte: composed or not, in either case, with U+200D or without it. */
+    {'s', "<\xC3\xA9></e\xCC\x81>", LORIKVAR_REFUSAL_NAMES_DIFFER, {1, 3, 6, 9}},
+    {'s', "<\xE2\x84\xAB></\xC3\x85>", LORIKVAR_REFUSAL_NAMES_DIFFER, {1, 4, 7, 9}},
+    {'s', "<\xEF\xA4\x80></\xE8\xB1\x88>", LORIKVAR_REFUSAL_NAMES_DIFFER, {1, 4, 7, 10}},
+    {'s', "<\xC3\x89></\xC3\xA9>", LORIKVAR_REFUSAL_NAMES_DIFFER, {1, 3, 6, 8}},
+    {'s', "<a></a\xE2\x80\x8D>", LORIKVAR_REFUSAL_NAMES_DIFFER, {1, 2, 5, 9}},
+    {'s', "<a.\xCE\xBB></a.\xCE\xBC>", LORIKVAR_REFUSAL_NAMES_DIFFER, {1, 5, 8, 12}},
+    {'r', "x<\xC3\xA9></\xED\x95\x9C>", LORIKVAR_REFUSAL_NAMES_DIFFER, {2, 4, 7, 10}},
+    /* Other refusals whose places are such names, or stand behind them. */
+    {'s', "<></\xC3\xA9>", LORIKVAR_REFUSAL_FRAGMENT_CLOSED_BY_NAME, {0, 2, 4, 6}},
+    {'s', "<\xC3\xA9></>", LORIKVAR_REFUSAL_ELEMENT_CLOSED_BY_FRAGMENT, {1, 3, 4, 7}},
+    {'s', "<a.\xC3\xA9-/>", LORIKVAR_REFUSAL_DASH_AFTER_DOT, {3, 6, 0, 0}},
+    {'s', "<\xC3\xA9/><\xC3\xA9/>", LORIKVAR_REFUSAL_ADJACENT, {5, 6, 0, 0}},
+    {'s', "<\xC3\xA9", LORIKVAR_REFUSAL_END_OF_INPUT, {3, 3, 0, 0}},
+    {'s', "<a></\xC3\xA9", LORIKVAR_REFUSAL_END_OF_INPUT, {7, 7, 0, 0}},
+    {'s', "<\xED\x95", LORIKVAR_REFUSAL_NOT_UTF8, {1, 1, 0, 0}},
     /* Runs. */
     {'r', "</>", LORIKVAR_REFUSAL_UNEXPECTED, {0, 0, 0, 0}},
     {'r', "a< /b>", LORIKVAR_REFUSAL_UNEXPECTED, {1, 1, 0, 0}},
@@ -97,6 +134,20 @@ static void depth(char reading)
     free(deeper);
 }
 
+/* Behind 64 levels a name's first character is 14 at the `<`; a character that begins no name is 3 at itself. */
+static void deep_names(char reading)
+{
+    char *named = nested("<a>", LORIKVAR_MOST_DEPTH, "<\xC3\xA9", "");
+    char *unnamed = nested("<a>", LORIKVAR_MOST_DEPTH, "<\xCC\x81", "");
+    size_t less[LORIKVAR_VALUES] = {3 * LORIKVAR_MOST_DEPTH, 3 * LORIKVAR_MOST_DEPTH, 0, 0};
+    size_t behind[LORIKVAR_VALUES] = {3 * LORIKVAR_MOST_DEPTH + 1, 3 * LORIKVAR_MOST_DEPTH + 1, 0, 0};
+    about("depth and names beyond ASCII");
+    refuses(reading, bytes(named), strlen(named), LORIKVAR_REFUSAL_TOO_DEEP, less);
+    refuses(reading, bytes(unnamed), strlen(unnamed), LORIKVAR_REFUSAL_UNEXPECTED, behind);
+    free(named);
+    free(unnamed);
+}
+
 /* 1 and 2: the longest input that is good, and one byte more. Length is tested first, then UTF-8, then the rest. */
 static void length(char reading)
 {
@@ -128,6 +179,8 @@ void test_refused(void)
     }
     depth('s');
     depth('r');
+    deep_names('s');
+    deep_names('r');
     length('s');
     length('r');
 }
