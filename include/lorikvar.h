@@ -10,6 +10,10 @@
  * U+2000 to U+200A, U+2028, U+2029, U+202F, U+205F, U+3000, U+FEFF. A byte order mark in front of a stage is one of
  * them: it is not taken off, and offsets count its bytes. In a run it is text.
  *
+ * NAMES of elements and attributes may be in any script: a part begins with a character of Unicode's ID_Start, `$` or
+ * `_`, then come those of ID_Continue, `$`, U+200C, U+200D and `-`; of version 17.0. Two names are equal if their bytes
+ * are: none is normalised. Names in braces are ASCII.
+ *
  * Any bytes get an answer. A refusal is the whole answer: it writes no word of the table, and there is no half-read
  * tree.
  *
