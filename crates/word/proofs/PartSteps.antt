@@ -65,19 +65,11 @@ module _ (s : List ℕ) (at : ℕ) {b : ℕ} (y : b ≡ byteAt s at) where
 
     module _ {t : Bool} (i : t ≡ nameByte b) where
       -- It is one of a name,
-      pub width-byte : t ≡ true → 1 ≡ partWidth s at
-      unfolding partWidth
-      width-byte x = sym (rw (part-of-byte ∙ sym i ∙ x) (ap widthOf (sym y) ∙ sym (width-one (omega arith))))
-
       pub common-byte : t ≡ true → 1 ≡ commonWidth s at
       unfolding commonWidth
       common-byte x = sym (rw (← y, lt-ltb b 0x80 h, sym i ∙ x))
 
       -- or it is not.
-      pub width-no-byte : t ≡ false → 0 ≡ partWidth s at
-      unfolding partWidth
-      width-no-byte x = sym (rw (part-of-byte ∙ sym i ∙ x))
-
       pub common-no-byte : t ≡ false → 0 ≡ commonWidth s at
       unfolding commonWidth
       common-no-byte x = sym (rw (← y, lt-ltb b 0x80 h, sym i ∙ x))
@@ -99,15 +91,16 @@ module _ (s : List ℕ) (at : ℕ) {b : ℕ} (y : b ≡ byteAt s at) where
       unfolding commonWidth
       common-none x = sym (rw (← y, le-ltb b 0x80 h, sym (ap common z) ∙ sym i ∙ x))
 
-  module _ {c : ℕ} (z : c ≡ codeAt s at) {t : Bool} (i : t ≡ inPart c) where
-    -- One of a part, and one that is not.
-    pub width-here : t ≡ true → {n : ℕ} → n ≡ widthOf b → n ≡ partWidth s at
-    unfolding partWidth
-    width-here x e = e ∙ ap widthOf y ∙ sym (rw (sym (ap inPart z) ∙ sym i ∙ x))
+module _ (s : List ℕ) (at : ℕ) {c : ℕ} (z : c ≡ codeAt s at) {t : Bool} (i : t ≡ inPart c) where
+  -- A character of a part,
+  pub width-here : t ≡ true → {b n : ℕ} → b ≡ byteAt s at → n ≡ widthOf b → n ≡ partWidth s at
+  unfolding partWidth
+  width-here x y e = e ∙ ap widthOf y ∙ sym (rw (sym (ap inPart z) ∙ sym i ∙ x))
 
-    pub width-none : t ≡ false → 0 ≡ partWidth s at
-    unfolding partWidth
-    width-none x = sym (rw (sym (ap inPart z) ∙ sym i ∙ x))
+  -- and one of none.
+  pub width-none : t ≡ false → 0 ≡ partWidth s at
+  unfolding partWidth
+  width-none x = sym (rw (sym (ap inPart z) ∙ sym i ∙ x))
 
 -- A part begins here by the code of the character here.
 pub opens-here : (s : List ℕ) (at : ℕ) {c : ℕ} → c ≡ codeAt s at → {t : Bool} → t ≡ opensPart c
@@ -381,9 +374,7 @@ pub ruleset part-steps = (
   opens-by-table,
   in-by-table,
   ends-byte,
-  width-byte,
   common-byte,
-  width-no-byte,
   common-no-byte,
   ends-by-code,
   common-here,

@@ -105,12 +105,8 @@ fn part_width(s: &[u8], at: usize, table: &[u32]) -> usize
     requires { ⌜ (at ≤ length (now s)) × (now table ≡ continueRanges) ⌝ }
     ensures { λ r. ⌜ r ≡ partWidth (now (s .entry)) at ⌝ }
 {
-    let b = lex::byte(s, at);
-    if b < WIDE {
-        return if in_name(b) { 1 } else { 0 };
-    }
     if in_code(character::code_at(s, at), table) {
-        return character::width(b);
+        return character::width(lex::byte(s, at));
     }
     0
 }

@@ -3,11 +3,17 @@ use Rattle.word.proofs.part_width.Tie as tie
 use Rattle.word.proofs.PartSteps.{part-steps}
 use Rattle.word.proofs.Asked.{asked}
 
+code-at-requires : tie.Need-code-at-requires
+code-at-requires c κs = search asked
+
+in-code-requires : tie.Need-in-code-requires
+in-code-requires c κs = search asked
+
 byte-requires : tie.Need-byte-requires
 byte-requires c κs = search asked
 
-in-name-requires : tie.Need-in-name-requires
-in-name-requires c κs = search asked
+width-requires : tie.Need-width-requires
+width-requires c κs = search asked
 
 returns : tie.Need-returns
 returns c = search part-steps
@@ -15,31 +21,7 @@ returns c = search part-steps
 returns-2 : tie.Need-returns-2
 returns-2 c = search part-steps
 
-code-at-requires : tie.Need-code-at-requires
-code-at-requires c κs = search asked
-
-in-code-requires : tie.Need-in-code-requires
-in-code-requires c κs = search asked
-
-width-requires : tie.Need-width-requires
-width-requires c κs = search asked
-
-returns-3 : tie.Need-returns-3
-returns-3 c = search part-steps
-
-returns-4 : tie.Need-returns-4
-returns-4 c = search part-steps
-
 pub part-width-spec : {M : Type 1} → statement M
 part-width-spec =
     tie.close
-    (tie.spec
-    byte-requires
-    in-name-requires
-    returns
-    returns-2
-    code-at-requires
-    in-code-requires
-    width-requires
-    returns-3
-    returns-4)
+    (tie.spec code-at-requires in-code-requires byte-requires width-requires returns returns-2)
