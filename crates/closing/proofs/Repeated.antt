@@ -115,7 +115,8 @@ module _ (s : List ℕ) (c a e n : ℕ) {w : Forest} (h : readAt s part a ≡ go
       let j : c + 2 ≡ c + 1 + 1 = omega arith in
       let i = v .inside in
       let m = rw j at (v .name) in
-      part-again s a e h (c + 1 + 1) (λ i l. same-byte s n a (c + 1 + 1) i m (omega arith)) (c + 1 + 1 + n) (omega arith)
+      part-again s a e h (c + 1 + 1) (λ i l. same-byte s n a (c + 1 + 1) i m (omega arith))
+      (c + 1 + 1 + n) (omega arith)
       (no-part-shut s (c + 1 + 1 + n) shut) (omega arith)
 
   opens : opensPart (codeAt s (c + 1 + 1)) ≡ true

@@ -1,4 +1,5 @@
-// ID_Start and ID_Continue beyond ASCII (Unicode 17.0.0), as the definition's Ranges has them. Made by unicode/make.
+// ID_Start and ID_Continue beyond ASCII (Unicode 17.0.0), as the definition's Ranges has them.
+// Made by unicode/make.
 
 pub const START: [u32; 1364] = [
     0xAA,

@@ -72,7 +72,8 @@ unfolding Rattle.rules.specs.Forest._⋈_ Rattle.rules.specs.Forest.width Ratt
     Rattle.rules.specs.Forest.inside Rattle.rules.specs.Parse.opens Rattle.rules.specs.Parse.codeOn
     Rattle.rules.specs.Parse.codeAt Rattle.rules.specs.Parse.repeat
     Rattle.rules.specs.Parse.parse Rattle.rules.specs.Parse.parseAll Rattle.rules.specs.Record.count
-    Rattle.rules.specs.Record.records Rattle.jsx.specs.Byte.oneOf Rattle.jsx.specs.Byte.letter Rattle.jsx.specs.Byte.digit
+    Rattle.rules.specs.Record.records Rattle.jsx.specs.Byte.oneOf
+    Rattle.jsx.specs.Byte.letter Rattle.jsx.specs.Byte.digit
     Rattle.jsx.specs.Byte.quote Rattle.jsx.specs.Byte.lineEnd Rattle.jsx.specs.Byte.need
     Rattle.jsx.specs.Byte.expect Rattle.jsx.specs.Utf8.second Rattle.jsx.specs.Utf8.other
     Rattle.jsx.specs.Utf8.sequence Rattle.jsx.specs.Utf8.utf8 Rattle.jsx.specs.Blank.spaceSeparator

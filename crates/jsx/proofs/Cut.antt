@@ -21,7 +21,8 @@ use Rattle.rules.proofs.Reach.{reach, step-got}
 use Rattle.jsx.specs.Byte.{end, _‥_, _or_}
 use Rattle.jsx.specs.Utf8.{second, other, sequence}
 use Rattle.jsx.specs.Compose.{WellFormed}
-use Rattle.jsx.proofs.Pieces.{anyByte, any-not-alone, anyNode, oneTurn, flow-turn, turning, reading-loop, turn-within, turn-up}
+use Rattle.jsx.proofs.Pieces.{anyByte, any-not-alone, anyNode, oneTurn, flow-turn, turning, reading-loop}
+use Rattle.jsx.proofs.Pieces.{turn-within, turn-up}
 use Rattle.jsx.proofs.Pieces.{turn-stops, got-good, good-got, good-join, good-rest}
 
 -- ---- rules that read no ASCII byte

@@ -166,7 +166,8 @@ in-covered t [] c h k = never k
 in-covered t (lo ∷ []) c h k = never k
 in-covered t (lo ∷ hi ∷ more) c h k =
     let g = both (holdsRange (from lo t t) lo hi) (covers (from lo t t) more) h in
-    go (ltb c lo) refl (leb c hi) refl k (in-range (from lo t t) lo hi c (g .0)) (in-covered (from lo t t) more c (g .1))
+    go (ltb c lo) refl (leb c hi) refl k (in-range (from lo t t) lo hi c (g .0))
+    (in-covered (from lo t t) more c (g .1))
   where
     go : (b : Bool) → ltb c lo ≡ b → (d : Bool) → leb c hi ≡ d
         → pick b false (pick d true (inRanges more c)) ≡ true

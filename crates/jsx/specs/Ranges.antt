@@ -1,5 +1,5 @@
--- ID_Start and ID_Continue beyond ASCII, from DerivedCoreProperties.txt of Unicode 17.0.0: first and last code of
--- each range, in order. Made by unicode/make.
+-- ID_Start and ID_Continue beyond ASCII, from DerivedCoreProperties.txt of Unicode 17.0.0: first and last
+-- code of each range, in order. Made by unicode/make.
 use Prim.Native.Nat.{ℕ}
 use mathlib.Core.List.{List, [], _∷_}
 

@@ -30,13 +30,15 @@ firstOf t i = getD t (2 * i) 0
 abbrev pub lastOf : List ℕ → ℕ → ℕ
 lastOf t i = getD t (2 * i + 1) 0
 
--- A test of a table: no range begins before `from`, none ends before it begins, and at least one code stands between two.
+-- A test of a table: no range begins before `from`, none ends before it begins, and at least one code stands between
+-- two.
 unfoldable pub orderedFrom : (from : ℕ) → List ℕ → Bool
 orderedFrom from [] = true
 orderedFrom from (lo ∷ []) = false
 orderedFrom from (lo ∷ hi ∷ more) = pick (leb from lo) (pick (leb lo hi) (orderedFrom (hi + 2) more) false) false
 
--- D2: "The range table is proved ordered and disjoint once." Both tables pass the test, and what passes is such a table.
+-- D2: "The range table is proved ordered and disjoint once." Both tables pass the test, and what passes it is such a
+-- table.
 pub record Ordered (t : List ℕ) : Type 0 where
   pub each : (i : ℕ) → 2 * i + 1 < length t → firstOf t i ≤ lastOf t i
   pub apart : (i j : ℕ) → i < j → 2 * j + 1 < length t → lastOf t i < firstOf t j

@@ -111,7 +111,8 @@ module _ (C : ℕ → Rule) (Q : Test) (R : Label → Forest → Type 0) (s s′
     where
       res : (n : ℕ) × (new t e′ at ≡ got a o n) × (p₁ + 0 ≡ n + 0)
       res =
-          local-got (Lacks Q) s s′ 0 0 at p (suc p) (omega arith) (before s s′ p ante (omega arith) pl′ Q closed (λ h. low) at)
+          local-got (Lacks Q) s s′ 0 0 at p (suc p) (omega arith)
+          (before s s′ p ante (omega arith) pl′ Q closed (λ h. low) at)
           (suc (length s)) (suc (length s′)) t e e′ at at (omega arith) refl (le-refl _) lk h (omega arith)
 
   -- Behind the content.
@@ -464,7 +465,8 @@ module _ (C : ℕ → Rule) (Q : Test) (R : Label → Forest → Type 0) (s s′
   refill (f-look {w = w} {t} {u} sn pw x y) e e′ at a o q le l h = λ ω sp.
       let B = there (f-look {w = w} sn pw x y) e at a o q h l ω sp in
       fork-refill (stands s w at) (stands s′ w at) t u e e′ at a o q ω
-      (before s s′ p ante (omega arith) pl′ Q closed (λ h. low) at at at refl (le-refl _) (B .1) .2 w (short-lacks Q w pw)) h
+      (before s s′ p ante (omega arith) pl′ Q closed (λ h. low) at at at refl (le-refl _) (B .1) .2 w
+      (short-lacks Q w pw)) h
       (λ z. refill x e e′ at a o q le l z ω sp) (λ z. refill y e e′ at a o q le l z ω sp)
   refill (f-after {f = f} {r} {t} {u} gr fr x y) e e′ at a o q le l h = λ ω sp.
       let B = there (f-after {f = f} gr fr x y) e at a o q h l ω sp in

@@ -272,7 +272,9 @@ names-twin {s} {a} {b} {c} {d} n n₂ v = go (m .form) (m₂ .form)
         let tw = t .0 in
         let lo = t .1 in
         Equal.rests h g parts ∙ colon-twin v (omega arith) (omega arith) (h .rest) (g .rest)
-    go (several colon x h) (several dot x₂ g) = let y = separators h (edge-colon s (m .q) b x) .2 in absurd (omega arith)
+    go (several colon x h) (several dot x₂ g) =
+        let y = separators h (edge-colon s (m .q) b x) .2 in
+        absurd (omega arith)
     go (several dot x h) (several colon x₂ g) = let y = separators h (edge-dot s (m .q) b x) .2 in absurd (omega arith)
     go (several dot x h) (several dot x₂ g) =
         let t = separators h (edge-dot s (m .q) b x) in

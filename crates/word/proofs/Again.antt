@@ -96,8 +96,8 @@ module _ (s : List ℕ) where
       rw (x, y) (h (n + i) (omega arith))
 
   -- A character that stands before e stands from q on.
-  agree-one : (p e q : ℕ) → Agree p e q → (codeAt s p ≡ noChar → ⊥) → behindOne p ≤ e → Same s p q (widthOf (byteAt s p))
-  agree-one p e q h k l i m = h i (omega arith)
+  agree-one : (p e q : ℕ) → Agree p e q → behindOne p ≤ e → Same s p q (widthOf (byteAt s p))
+  agree-one p e q h l i m = h i (omega arith)
 
   -- The bytes of q are those of p.
   agree-back : (p e q f : ℕ) → Agree p e q → e + q ≡ f + p → Agree q f p
@@ -134,13 +134,14 @@ module _ (s : List ℕ) where
           let r′ : turns fuel (behindOne p) ≡ got true v e = ap (turns fuel) (sym (g .next)) ∙ r in
           let le : behindOne p ≤ e = turns-up fuel (behindOne p) r′ in
           let k = in-coded s p (g .coded) in
-          let same = agree-one p e q agree k le in
+          let same = agree-one p e q agree le in
           let wide = character-wide s p k in
           let b = first-again s p q k same wide in
           let t : inPart (codeAt s q) ≡ true = ap inPart (sym (code-again s p q k same)) ∙ g .coded in
           let n = ap widthOf b in
           let read : readAt s partTurn q ≡ got true (letters q) (q + widthOf (byteAt s p)) =
-          rw t (character-spelled s (suc (length s)) 0 q (in-coded s q t) ∙ ap (λ (m : ℕ). got true (letters q) (q + m)) (sym n)) in
+          rw t (character-spelled s (suc (length s)) 0 q (in-coded s q t)
+          ∙ ap (λ (m : ℕ). got true (letters q) (q + m)) (sym n)) in
           many-more s partTurn 0 q read (omega arith) (omega arith)
           ∙ ap (behind (letters q)) (ih v r′)
           ∙ ap (λ (u : Forest). got true (u ⋈ v) z) (sym (spelling-again s p q k same) ∙ sym (g .reads))
@@ -165,10 +166,10 @@ module _ (s : List ℕ) where
       rest-twin fuel fuel₂ (p + n) (q + n) e f b d r r₂ (agree-on p b q n agree) (omega arith) le le₂)
     where
       -- A character of the one is one of the other.
-      meets : (p q e b d : ℕ) → Agree p b q → (k : codeAt s p ≡ noChar → ⊥) → behindOne p ≤ b
+      meets : (p q b : ℕ) → Agree p b q → (k : codeAt s p ≡ noChar → ⊥) → behindOne p ≤ b
           → (codeAt s p ≡ codeAt s q) × (widthOf (byteAt s p) ≡ widthOf (byteAt s q))
-      meets p q e b d agree k le =
-          let same = agree-one p b q agree k le in
+      meets p q b agree k le =
+          let same = agree-one p b q agree le in
           (code-again s p q k same, ap widthOf (first-again s p q k same (character-wide s p k)))
 
       go : Turn (parse s (suc (length s)) partTurn 0) fuel p w e
@@ -181,20 +182,20 @@ module _ (s : List ℕ) where
           let g = turn-on q y in
           let r′ = ap (turns fuel₂) (sym (g .next)) ∙ r in
           let up₂ = turns-up fuel₂ (behindOne q) r′ in
-          let t = meets q p f d b (agree-back p b q d agree j) (in-coded s q (g .coded)) (omega arith) in
+          let t = meets q p d (agree-back p b q d agree j) (in-coded s q (g .coded)) (omega arith) in
           never (sym (turn-off p x .other) ∙ ap inPart (sym (t .0)) ∙ g .coded)
       go (goon o p₁ v x m r c) (last y) ih =
           let g = turn-on p x in
           let r′ = ap (turns fuel) (sym (g .next)) ∙ r in
           let up₁ = turns-up fuel (behindOne p) r′ in
-          let t = meets p q e b d agree (in-coded s p (g .coded)) (omega arith) in
+          let t = meets p q b agree (in-coded s p (g .coded)) (omega arith) in
           never (sym (turn-off q y .other) ∙ ap inPart (sym (t .0)) ∙ g .coded)
       go (goon o p₁ v x m r c) (goon o₂ q₁ v₂ y m₂ r₂ c₂) ih =
           let g = turn-on p x in
           let g₂ = turn-on q y in
           let r′ = ap (turns fuel) (sym (g .next)) ∙ r in
           let up₁ = turns-up fuel (behindOne p) r′ in
-          let t = meets p q e b d agree (in-coded s p (g .coded)) (omega arith) in
+          let t = meets p q b agree (in-coded s p (g .coded)) (omega arith) in
           let n = widthOf (byteAt s p) in
           let i : q₁ ≡ q + n = g₂ .next ∙ ap (λ (m : ℕ). q + m) (sym (t .1)) in
           let z = ih n v v₂ r′ (ap (turns fuel₂) (sym i) ∙ r₂) in
@@ -251,7 +252,7 @@ module _ (s : List ℕ) (a e : ℕ) {w : Forest} (h : readAt s namePart a ≡ go
 
   module _ (c : ℕ) (agree : Agree s a e c) where
     same-one : Same s a c (widthOf (byteAt s a))
-    same-one = agree-one s a e c agree (opens-coded s a part-opens) first-within
+    same-one = agree-one s a e c agree first-within
 
     -- The same bytes from c on begin with that character.
     pub opens-again : opensPart (codeAt s c) ≡ true
@@ -267,7 +268,8 @@ module _ (s : List ℕ) (a e : ℕ) {w : Forest} (h : readAt s namePart a ≡ go
         let b = first-again s a c k same-one wide in
         let n = ap widthOf b in
         let up = first-within in
-        let one : readAt s (whenChar opensPart ⇒ character ∣ need) c ≡ got true (letters s c) (c + widthOf (byteAt s a)) =
+        let one : readAt s (whenChar opensPart ⇒ character ∣ need) c
+        ≡ got true (letters s c) (c + widthOf (byteAt s a)) =
         rw opens-again (character-spelled s (suc (length s)) 0 c (opens-coded s c opens-again)
         ∙ ap (λ (m : ℕ). got true (letters s c) (c + m)) (sym n)) in
         let rest = rest-again s (suc (length s)) (behindOne s a) e (c + widthOf (byteAt s a)) z (opened .rest)
@@ -290,7 +292,7 @@ unfolding parse
 parts-twin s p q e f b d h h₂ agree j le le₂ =
     let within = first-within s p e h in
     let k = opens-coded s p (part-opens s p e h) in
-    let same = agree-one s p b q agree k (omega arith) in
+    let same = agree-one s p b q agree (omega arith) in
     let n = widthOf (byteAt s p) in
     let m : n ≡ widthOf (byteAt s q) = ap widthOf (first-again s p q k same (character-wide s p k)) in
     let r₂ = ap (λ (i : ℕ). readAt s restOfPart (q + i)) m ∙ opened s q f h₂ .read in
