@@ -3,11 +3,11 @@
 use Rattle.rules.specs.Rule.{Test}
 use Rattle.jsx.specs.Byte.{_‥_, _or_, is}
 
--- Greek, but for capitals.
+-- Greek from Σ on.
 unfoldable pub greek : Test
 greek = (0x3A3 ‥ 0x3F5)
 
--- Capitals of Greek; Latin; Cyrillic.
+-- Greek before Σ; Latin; Cyrillic.
 unfoldable pub european : Test
 european =
     (0x38E ‥ 0x3A1)

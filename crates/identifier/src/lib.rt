@@ -13,14 +13,14 @@ const ZERO_WIDTH_NON_JOINER: u32 = 0x200C;
 
 const ZERO_WIDTH_JOINER: u32 = 0x200D;
 
-// Letters of Greek, but for capitals.
+// Letters of Greek from Σ (U+03A3) on.
 fn is_greek(c: u32) -> bool
     ensures { λ r. ⌜ r ≡ greek c ⌝ }
 {
     lex::within(c, 0x3A3, 0x3F5)
 }
 
-// Letters of Latin and Cyrillic, and capitals of Greek.
+// Letters of Latin and Cyrillic, and those of Greek before Σ.
 fn is_european(c: u32) -> bool
     ensures { λ r. ⌜ r ≡ european c ⌝ }
 {
