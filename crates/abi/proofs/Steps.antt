@@ -36,7 +36,7 @@ pub say_refused : {x : Reply} {n a b c d n₁ a₁ b₁ c₁ d₁ : ℕ} → x �
     → Says x n₁ (a₁ ∷ b₁ ∷ c₁ ∷ d₁ ∷ [])
 say_refused e en ea eb ec ed = rw (e, en, ea, eb, ec, ed) (record { number = refl; is = refl })
 
-pub ruleset say-steps = (rules, say_accepted, say_refused)
+pub ruleset say_steps = (rules, say_accepted, say_refused)
 
 -- ---- limits
 
@@ -74,7 +74,7 @@ module _ (s : List ℕ) (x : Store.Settled) (v : settled_of x ≡ settings s) {l
       let f = sym v ∙ ap settled_of e in
       record { number = en ∙ sym (rw f); places = rw (ea, eb, f); hold = holding }
 
-pub ruleset limit-steps = (rules, within_check, within_read, settings_set, settings_refused)
+pub ruleset limit_steps = (rules, within_check, within_read, settings_set, settings_refused)
 
 -- ---- parts
 
@@ -118,4 +118,4 @@ module _ (s t : List ℕ) (m k : ℕ) where
       → SaysPart (record_part s t m k) r part
   record_row h l p q x e f = says_as (rw (e, f) at x) (record_is s t m k h l p q)
 
-pub ruleset part-steps = (rules, part_turned, part_past, part_is, record_uncounted, record_no_row, record_row)
+pub ruleset part_steps = (rules, part_turned, part_past, part_is, record_uncounted, record_no_row, record_row)

@@ -208,7 +208,7 @@ comment_nearer l h = let f = l.far _ _ h in omega arith
 pub line_nearer : {s : List ℕ} {p q : ℕ} → Past q s line_comment p 2 → length s - q < length s - p
 line_nearer l = let f = l.far in omega arith
 
-pub ruleset blank-steps = (
+pub ruleset blank_steps = (
   blanks_begin,
   blanks_behind,
   byte_goes_on,

@@ -189,7 +189,7 @@ module _
         let k = l.clear.inside in
         omega arith
 
-pub ruleset comment-steps = (
+pub ruleset comment_steps = (
   scan_steps,
   stop_lf,
   stop_cr,

@@ -240,7 +240,7 @@ module _ (s : List ℕ) (at : ℕ) where
     unfolding line_ends
     ends_wide h z e = e ∙ ap line_terminator z ∙ sym (rw (ne_eqb (byte_at s at) 256 (λ x. h (y ∙ x))))
 
-pub ruleset test-steps = (
+pub ruleset test_steps = (
   char_alone,
   char_ascii,
   char_under,

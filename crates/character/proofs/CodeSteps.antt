@@ -85,7 +85,7 @@ module _ (s : List ℕ) (at : ℕ) {b : ℕ} (y : b ≡ byte_at s at) where
                 le-ltb b 0xF8 k,
               ))
 
-pub ruleset code-steps = (
+pub ruleset code_steps = (
   code_alone,
   code_none,
   code_two,

@@ -37,4 +37,4 @@ module _ {b : ℕ} where
         width_over k =
             sym (rw (over 0xC0 0xDF b (omega arith), over 0xE0 0xEF b (omega arith), over 0xF0 0xF7 b (omega arith)))
 
-pub ruleset width-steps = (width_one, width_two, width_three, width_four, width_over)
+pub ruleset width_steps = (width_one, width_two, width_three, width_four, width_over)

@@ -198,7 +198,7 @@ module _ {s : List ℕ} {o : Opened} {c : ℕ} {q : Seat} {p : ℕ} (op : Openin
           o.at o.start o.end _ op.behind A.ends A.is (sym as_name ∙ e))
           (tag_stored v lent h l₂ h₂ g refl room.inside (rw e₁ at w)))
 
-pub ruleset named-steps = (rules, named_stops, named_end_stops, named_differs, named_made)
+pub ruleset named_steps = (rules, named_stops, named_end_stops, named_differs, named_made)
 
 -- ---- close_read
 
@@ -293,7 +293,7 @@ read_bare {s} {o} {c} op l h e x {q} {t} {t'} y =
     (closing_bare s c _ (bare_inside l h z) (bare_whole l h z) o.at o.start o.end _ op.behind A.ends
     (bare_wide l h z) A.is))
 
-pub ruleset read-steps = (rules, read_stops, read_bare)
+pub ruleset read_steps = (rules, read_stops, read_bare)
 
 -- ---- close_by_name
 
@@ -321,7 +321,7 @@ module _ {s : List ℕ} {at e c : ℕ} {q : Seat} {p : ℕ} (le : at ≤ e) (roo
         (made_stop s c 3 q 0 t₀ t' refl
         (closing_by_name s c p f _ _ _ B.kind B.extra (flat v) (wide v) B.ends (whole v l h l₂ h₂) at e le))
 
-pub ruleset by_name-steps = (rules, by_name_stops, by_name_end_stops, by_name_is)
+pub ruleset by_name_steps = (rules, by_name_stops, by_name_end_stops, by_name_is)
 
 -- ---- close_fragment
 
@@ -343,7 +343,7 @@ module _ {s : List ℕ} {at e c : ℕ} {q : Seat} (le : at ≤ e) (room : Room 3
       (tag_made (closing_plain s c _ (bare_inside l h z) (bare_whole l h z) at (e - at))
       (bare_stored l h z room.inside w))
 
-pub ruleset fragment-steps = (rules, fragment_stops, fragment_made)
+pub ruleset fragment_steps = (rules, fragment_stops, fragment_made)
 
 -- ---- what the calls ask
 
@@ -437,7 +437,7 @@ pub named_closing : {r : Ans} {s : List ℕ} {p k : ℕ} {q : Seat} {i f j : ℕ
 named_closing l h e f g =
     rw (e, f, g) (record { read = made_got l goes_element_name h; inside = (l.of.far _ _ h).1 })
 
-pub ruleset named-asked =
+pub ruleset named_asked =
     (rules, enter_here, leaf_inside, made_inside, name_room, named_words, named_fits, named_opened, named_closing)
 
 pub ruleset read_asked =

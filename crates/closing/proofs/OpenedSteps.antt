@@ -17,7 +17,7 @@ use Rattle.lex.specs.Contract.{nothing, bytes_from, Leaf}
 use Rattle.lex.specs.declared.Ans.{Ans}
 use Rattle.lex.specs.declared.Ans.TheVariants.{Got, No}
 use Rattle.lex.proofs.Laws as Lex
-use Rattle.table.proofs.Asked.{reader-asked}
+use Rattle.table.proofs.Asked.{reader_asked}
 use Rattle.closing.specs.declared.Opened.{Opened}
 use Rattle.tag.specs.Token.{open_by, close_open}
 use Rattle.closing.specs.Close.{Closes, Told, Opening}
@@ -50,7 +50,7 @@ closes_is {s} {c} {a} {n} e₁ h₁ e₂ h₂ e₃ h₃ e = record {
   };
 }
 
-pub ruleset closes-steps = (rules, closes_not, closes_is)
+pub ruleset closes_steps = (rules, closes_not, closes_is)
 
 -- ---- `<`, blanks, `/`, blanks
 
@@ -66,7 +66,7 @@ module _ {s : List ℕ} {c : ℕ} {r : Ans} (l : Leaf nothing r s (open_by (code
   unfolding close_open
   less_is h l₂ = two_are l 2 (goes_open (code "<")) h l₂ (omega arith)
 
-pub ruleset less-steps = (rules, less_stops, less_is)
+pub ruleset less_steps = (rules, less_stops, less_is)
 
 -- ---- the opening tag's name
 
@@ -99,4 +99,4 @@ pub closes_told : {f : Bool} {s : List ℕ} {c a n : ℕ} → Told f s c a n →
     → Closes u c₁ a₁ n₁
 closes_told l h e₁ e₂ e₃ e₄ = rw (e₁, e₂, e₃, e₄) (l.so h)
 
-pub ruleset close-asked = (reader-asked, name_ordered, name_inside, opening_copy, closes_told)
+pub ruleset close_asked = (reader_asked, name_ordered, name_inside, opening_copy, closes_told)

@@ -178,6 +178,6 @@ module _ {s : List ℕ} {o : Opened} {c : ℕ} (v : Opening s o) (b : Closes s c
       let i = b.inside in
       rw (g, e, f) (omega arith)
 
-pub ruleset same-steps = (rules, same_unstored, same_stored)
+pub ruleset same_steps = (rules, same_unstored, same_stored)
 
 pub ruleset same_asked = (rules, enter_here, name_ordered, same_longer, same_room, same_words)

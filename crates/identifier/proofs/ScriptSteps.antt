@@ -125,5 +125,5 @@ module _ (c : ℕ) {r : List ℕ} (e : r ≡ continue_ranges) {t : Bool} (i : t 
   pub part_other : {y u : Bool} → t ≡ false → u ≡ y → u ≡ pick (in_ranges continue_ranges c) true y
   part_other x j = or_second (i ∙ ap (λ (w : List ℕ). in_ranges w c) e) x j
 
-pub ruleset script-steps =
+pub ruleset script_steps =
     (rules, start_common, table_passes, part_found, part_other, is_first, is_second)

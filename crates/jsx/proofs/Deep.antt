@@ -162,7 +162,7 @@ module _ (k : ℕ) where
   dotted_part_deeper = deeper_clear {t = dotted_part} refl (steady_is_node steady_other_part, tt)
 
 -- Rule by rule, and under a node.
-ruleset shape-rules = (
+ruleset shape_rules = (
   deeper_refuse,
   deeper_done,
   deeper_stop,
@@ -176,8 +176,8 @@ ruleset shape-rules = (
   deeper_marked,
 )
 
-ruleset name-rules = (
-  shape-rules,
+ruleset name_rules = (
+  shape_rules,
   blanks_deeper,
   expect_deeper,
   part_deeper,
@@ -190,11 +190,11 @@ ruleset name-rules = (
 module _ (k : ℕ) where
   element_name_deeper : Deeper k element_name element_name
   unfolding element_name namespaced member object dotted one_part other_part deepen_label
-  element_name_deeper = search name-rules depth 12
+  element_name_deeper = search name_rules depth 12
 
   attribute_name_deeper : Deeper k attribute_name attribute_name
   unfolding attribute_name namespaced other_part deepen_label
-  attribute_name_deeper = search name-rules depth 12
+  attribute_name_deeper = search name_rules depth 12
 
   -- ---- braces and tags with nothing of a deeper level
 
@@ -204,7 +204,7 @@ module _ (k : ℕ) where
 
   close_tag_deeper : Deeper k close_tag close_tag
   unfolding close_tag close_name deepen_label
-  close_tag_deeper = search (name-rules, element_name_deeper) depth 12
+  close_tag_deeper = search (name_rules, element_name_deeper) depth 12
 
 -- ---- what may be entered one level deeper
 
@@ -225,10 +225,10 @@ joined_deeper : (k : ℕ) (f : Test) (op next next' : Rule)
     → Deeper k next next'
     → Deeper k (joined f op next) (joined f op next')
 unfolding joined joined_turn
-joined_deeper k f op next next' o h = search (shape-rules, blanks_deeper, o, h) depth 8
+joined_deeper k f op next next' o h = search (shape_rules, blanks_deeper, o, h) depth 8
 
-ruleset deeper-rules = (
-  shape-rules,
+ruleset deeper_rules = (
+  shape_rules,
   need_deeper,
   expect_deeper,
   blanks_deeper,
@@ -243,33 +243,33 @@ ruleset deeper-rules = (
 module _ (k : ℕ) (n n' : Inner) (h : InnerDeeper k n n') where
   unary_deeper : Deeper k (unary n) (unary n')
   unfolding unary postfix postfix_turn primary no_sibling sibling
-  unary_deeper = search (deeper-rules, h.prefix, h.element, h.paren, h.bracket, h.call) depth 12
+  unary_deeper = search (deeper_rules, h.prefix, h.element, h.paren, h.bracket, h.call) depth 12
 
   conditional_deeper : Deeper k (conditional n) (conditional n')
   unfolding conditional question either both sum product times plus_minus and_and or_or
-  conditional_deeper = search (deeper-rules, unary_deeper, h.choice) depth 12
+  conditional_deeper = search (deeper_rules, unary_deeper, h.choice) depth 12
 
   container_deeper : Deeper k (container n) (container n')
   unfolding container close_container expression deepen_label
-  container_deeper = search (deeper-rules, conditional_deeper) depth 8
+  container_deeper = search (deeper_rules, conditional_deeper) depth 8
 
   spread_deeper : (x : ℕ) → Deeper k (spread x n) (spread x n')
   unfolding spread dots expression deepen_label
-  spread_deeper x = search (deeper-rules, conditional_deeper) depth 9
+  spread_deeper x = search (deeper_rules, conditional_deeper) depth 9
 
   value_deeper : Deeper k (value n) (value n')
   unfolding value quoted quoted_by quoted_turn no_sibling sibling deepen_label
-  value_deeper = search (deeper-rules, h.value_braces, h.element) depth 12
+  value_deeper = search (deeper_rules, h.value_braces, h.element) depth 12
 
   open_tag_deeper : Deeper k (open_tag n) (open_tag n')
   unfolding open_tag attributes attribute_turn attribute named_attribute initializer tag_end deepen_label
   open_tag_deeper =
-      search (deeper-rules, element_name_deeper, attribute_name_deeper, value_deeper, h.spread_braces) depth 16
+      search (deeper_rules, element_name_deeper, attribute_name_deeper, value_deeper, h.spread_braces) depth 16
 
   -- Children,
   pub children_deeper : Deeper k (children n) (children n')
   unfolding children child text deepen_label
-  children_deeper = search (deeper-rules, h.element, h.child_braces) depth 12
+  children_deeper = search (deeper_rules, h.element, h.child_braces) depth 12
 
   -- A content between two tags, with d levels left inside it.
   pair_deeper : (d : ℕ) {t t' : Rule} → Deeper k t t'
@@ -285,15 +285,15 @@ module _ (k : ℕ) (n n' : Inner) (h : InnerDeeper k n n') where
   unfolding level element_in fragment_in named_in open_fragment child_braces_in empty_braces value_braces_in paren_in bracket_in
       call_in argument_turn prefix_in choice_in deepen_label
   level_deeper d = record {
-    element = search (deeper-rules, pair_deeper, open_tag_deeper, element_label) depth 8;
-    child_braces = search (deeper-rules, spread_deeper, container_deeper) depth 8;
-    value_braces = search (deeper-rules, empty_value_braces_deeper, container_deeper);
+    element = search (deeper_rules, pair_deeper, open_tag_deeper, element_label) depth 8;
+    child_braces = search (deeper_rules, spread_deeper, container_deeper) depth 8;
+    value_braces = search (deeper_rules, empty_value_braces_deeper, container_deeper);
     spread_braces = spread_deeper Kind.spread_attribute;
-    paren = search (deeper-rules, conditional_deeper);
-    bracket = search (deeper-rules, conditional_deeper);
-    call = search (deeper-rules, conditional_deeper) depth 12;
-    prefix = search (deeper-rules, unary_deeper);
-    choice = search (deeper-rules, conditional_deeper) depth 8;
+    paren = search (deeper_rules, conditional_deeper);
+    bracket = search (deeper_rules, conditional_deeper);
+    call = search (deeper_rules, conditional_deeper) depth 12;
+    prefix = search (deeper_rules, unary_deeper);
+    choice = search (deeper_rules, conditional_deeper) depth 8;
   }
 
 element_too_deep_fails : fails element_too_deep ≡ true
@@ -336,7 +336,7 @@ run_deeper k d =
 -- and a stage.
 pub stage_deeper : (k d : ℕ) → Deeper k (stage d) (stage (k + d))
 unfolding stage no_sibling sibling
-stage_deeper k d = search (deeper-rules, (within_deeper k d).element) depth 8
+stage_deeper k d = search (deeper_rules, (within_deeper k d).element) depth 8
 
 -- A reading that stays the same with more depth, and is never stuck: `run` and `stage`.
 pub record Deepens (reading : ℕ → Rule) : Type 0 where

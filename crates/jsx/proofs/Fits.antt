@@ -115,7 +115,7 @@ need_any : {n y gn gy kn ky : ℕ} → C n y need gn gy kn ky
 unfolding need
 need_any = f_when f_refuse f_refuse
 
-ruleset byte-rules = (
+ruleset byte_rules = (
   f_refuse,
   f_done,
   f_stop,
@@ -138,11 +138,11 @@ seq_one : {i kn ky : ℕ} {t u : Rule}
     → C i i (seq t u) (suc i) (suc i) kn ky
 seq_one x z = f_seq x z
 
-ruleset one-rules = (byte-rules, f_step, seq_one, f_wrap)
+ruleset one_rules = (byte_rules, f_step, seq_one, f_wrap)
 
 blanks_keep : {n y kn ky : ℕ} → Close n y → C n y blanks n y kn ky
 unfolding blanks blank comment comment_turn line_comment line_turn
-blanks_keep x = search byte-rules depth 12
+blanks_keep x = search byte_rules depth 12
 
 expect_one : (c : Char) {i kn ky : ℕ} → C i i (expect c) (suc i) (suc i) kn ky
 unfolding expect
@@ -161,26 +161,26 @@ module _ {i kn ky : ℕ} where
 
   word_keeps : C i i word i i kn ky
   unfolding word
-  word_keeps = search byte-rules
+  word_keeps = search byte_rules
 
   primary_word_keeps : C i i primary_word i i kn ky
   unfolding primary_word
-  primary_word_keeps = search (byte-rules, word_keeps)
+  primary_word_keeps = search (byte_rules, word_keeps)
 
   number_keeps : C i i number i i kn ky
   unfolding number whole fraction digits
-  number_keeps = search byte-rules depth 12
+  number_keeps = search byte_rules depth 12
 
   string_keeps : C i i string i i kn ky
   unfolding string string_by string_turn
-  string_keeps = search byte-rules depth 12
+  string_keeps = search byte_rules depth 12
 
   no_sibling_keeps : (x : ℕ) → C i i (no_sibling x) i i kn ky
   unfolding no_sibling sibling
-  no_sibling_keeps x = search (byte-rules, blanks_keep)
+  no_sibling_keeps x = search (byte_rules, blanks_keep)
 
-ruleset keeps-rules = (
-  byte-rules,
+ruleset keeps_rules = (
+  byte_rules,
   blanks_keep,
   expect_keeps,
   pass_keeps,
@@ -195,7 +195,7 @@ ruleset keeps-rules = (
 
 -- The first byte of a character brings a credit.
 character_one : {i kn ky : ℕ} → C i i character (suc i) (suc i) kn ky
-character_one = search one-rules depth 12
+character_one = search one_rules depth 12
 
 -- Behind a part no character stands that opens one.
 part_one : {n y z kn ky : ℕ} → C n y part (suc y) z kn ky
@@ -252,15 +252,15 @@ attribute_name_keeps = f_after namespaced_keeps other_part_keeps
 
 text_keeps : {i kn ky : ℕ} → C (suc i) (suc i) text (suc i) (suc i) kn ky
 unfolding text
-text_keeps = search one-rules depth 8
+text_keeps = search one_rules depth 8
 
 quoted_keeps : {i kn ky : ℕ} → C (suc i) (suc i) quoted (suc i) (suc i) kn ky
 unfolding quoted quoted_by quoted_turn
-quoted_keeps = search one-rules depth 12
+quoted_keeps = search one_rules depth 12
 
 dots_one : {i kn ky : ℕ} → C i i dots (suc i) (suc i) kn ky
 unfolding dots
-dots_one = search one-rules
+dots_one = search one_rules
 
 -- The first byte pays for the container, the last one for what is empty.
 empty_braces_keeps : Keeps empty_braces
@@ -300,40 +300,40 @@ pub record InnerKeeps (n : Inner) : Type 0 where
 
 joined_keeps : (f : Test) {op next : Rule} → Keeps op → Keeps next → Keeps (joined f op next)
 unfolding joined joined_turn
-joined_keeps f {op} {next} x y = search (byte-rules, blanks_keep, x, y) depth 8
+joined_keeps f {op} {next} x y = search (byte_rules, blanks_keep, x, y) depth 8
 
 module _ (n : Inner) (h : InnerKeeps n) where
   primary_keeps : Keeps (primary n)
   unfolding primary
-  primary_keeps = search (keeps-rules, h.paren)
+  primary_keeps = search (keeps_rules, h.paren)
 
   postfix_keeps : Keeps (postfix n)
   unfolding postfix postfix_turn
-  postfix_keeps = search (keeps-rules, primary_keeps, h.bracket, h.call) depth 8
+  postfix_keeps = search (keeps_rules, primary_keeps, h.bracket, h.call) depth 8
 
   unary_keeps : Keeps (unary n)
   unfolding unary
-  unary_keeps = search (keeps-rules, postfix_keeps, h.prefix, h.element) depth 8
+  unary_keeps = search (keeps_rules, postfix_keeps, h.prefix, h.element) depth 8
 
   product_keeps : Keeps (product n)
   unfolding product times
-  product_keeps = joined_keeps (is "*") (search byte-rules) unary_keeps
+  product_keeps = joined_keeps (is "*") (search byte_rules) unary_keeps
 
   sum_keeps : Keeps (sum n)
   unfolding sum plus_minus
-  sum_keeps = joined_keeps (is "+" or is "-") (search byte-rules) product_keeps
+  sum_keeps = joined_keeps (is "+" or is "-") (search byte_rules) product_keeps
 
   both_keeps : Keeps (both n)
   unfolding both and_and
-  both_keeps = joined_keeps (is "&") (search byte-rules) sum_keeps
+  both_keeps = joined_keeps (is "&") (search byte_rules) sum_keeps
 
   either_keeps : Keeps (either n)
   unfolding either or_or
-  either_keeps = joined_keeps (is "|") (search byte-rules) both_keeps
+  either_keeps = joined_keeps (is "|") (search byte_rules) both_keeps
 
   conditional_keeps : Keeps (conditional n)
   unfolding conditional question
-  conditional_keeps = search (keeps-rules, either_keeps, h.choice) depth 8
+  conditional_keeps = search (keeps_rules, either_keeps, h.choice) depth 8
 
   -- The node of an expression takes a credit.
   expression_takes : {kn ky : ℕ} → C 6 6 (expression n) 5 5 kn ky
@@ -358,11 +358,11 @@ module _ (n : Inner) (h : InnerKeeps n) where
   -- An element that is no child, and the look behind it.
   value_keeps : Keeps (value n)
   unfolding value
-  value_keeps = search (keeps-rules, quoted_keeps {i = 4}, h.value_braces, h.element)
+  value_keeps = search (keeps_rules, quoted_keeps {i = 4}, h.value_braces, h.element)
 
   initializer_keeps : Keeps (initializer n)
   unfolding initializer
-  initializer_keeps = search (keeps-rules, value_keeps) depth 6
+  initializer_keeps = search (keeps_rules, value_keeps) depth 6
 
   -- Where a name opens there is a credit more: from the blank before it, or from what ends the attribute before it.
   named_attribute_keeps : {kn ky : ℕ} → C 3 4 (named_attribute n) 3 4 kn ky
@@ -389,7 +389,7 @@ module _ (n : Inner) (h : InnerKeeps n) where
 
   child_keeps : C 5 5 (child n) 5 5 5 5
   unfolding child
-  child_keeps = search (keeps-rules, text_keeps {i = 4}, h.element, h.child_braces)
+  child_keeps = search (keeps_rules, text_keeps {i = 4}, h.element, h.child_braces)
 
   children_keep : Keeps (children n)
   unfolding children
@@ -411,19 +411,19 @@ module _ (n : Inner) (h : InnerKeeps n) where
     element = λ kn ky. f_after (fragment_in_keeps d kn ky) (named_in_keeps d kn ky);
     child_braces = λ kn ky. f_after (empty_braces_keeps kn ky)
         (f_after (spare (spread_gains Kind.spread_child)) (container_keeps kn ky));
-    value_braces = search (keeps-rules, container_keeps) depth 6;
+    value_braces = search (keeps_rules, container_keeps) depth 6;
     spread_braces = λ kn ky. spread_gains Kind.spread_attribute;
-    paren = search (keeps-rules, conditional_keeps);
-    bracket = search (keeps-rules, conditional_keeps);
-    call = search (keeps-rules, conditional_keeps) depth 12;
-    prefix = search (keeps-rules, unary_keeps);
-    choice = search (keeps-rules, conditional_keeps) depth 7;
+    paren = search (keeps_rules, conditional_keeps);
+    bracket = search (keeps_rules, conditional_keeps);
+    call = search (keeps_rules, conditional_keeps) depth 12;
+    prefix = search (keeps_rules, unary_keeps);
+    choice = search (keeps_rules, conditional_keeps) depth 7;
   }
 
 within_keeps : (d : ℕ) → InnerKeeps (within d)
 unfolding within no_level element_too_deep
 within_keeps zero = record {
-  element = search keeps-rules;
+  element = search keeps_rules;
   child_braces = λ kn ky. f_refuse;
   value_braces = λ kn ky. f_refuse;
   spread_braces = λ kn ky. f_refuse;
@@ -441,7 +441,7 @@ run_keeps d kn ky = f_seq (children_keep (within d) (within_keeps d) kn ky) (f_w
 
 stage_keeps : (d : ℕ) → Keeps (stage d)
 unfolding stage
-stage_keeps d = search (keeps-rules, (within_keeps d).element) depth 8
+stage_keeps d = search (keeps_rules, (within_keeps d).element) depth 8
 
 -- ---- what each rule spends of its own
 

@@ -93,12 +93,12 @@ need_flow : {i g k : Mode} → Seen i → L i need g k
 unfolding need
 need_flow sn = f_when sn (f_refuse refl) (f_refuse refl)
 
-ruleset byte-rules =
+ruleset byte_rules =
     (f_refuse, f_done, f_stop, step_near, need_flow, seen_near, seen_pend, f_when, f_look, f_marked, f_many, seq_near)
 
 expect_near : (c : Char) → {k : Mode} → L near (expect c) near k
 unfolding expect
-expect_near c = search byte-rules
+expect_near c = search byte_rules
 
 expect_shut : (c : Char) → closer (code c) ≡ true → {k : Mode} → L near (expect c) shut k
 unfolding expect
@@ -120,7 +120,7 @@ closer_heads b h = rw (closer_low b h)
 
 blanks_near : {k : Mode} → L near blanks near k
 unfolding blanks blank comment comment_turn line_comment line_turn advances lacking closer
-blanks_near = search (byte-rules, closer_heads) depth 12
+blanks_near = search (byte_rules, closer_heads) depth 12
 
 -- Blanks go on.
 pub blanks_goes : goes blanks ≡ true
@@ -146,14 +146,14 @@ pass_again : {k : Mode} → L (pend pass) pass near k
 unfolding clear pass blanks blank comment comment_turn line_comment line_turn
 pass_again = f_last pass_goes refl pass_near
 
-ruleset blank-rules =
-    (byte-rules, expect_near, blanks_near, blanks_again, blanks_goes, pass_near, pass_again, f_after, seq_pend, to_pend)
+ruleset blank_rules =
+    (byte_rules, expect_near, blanks_near, blanks_again, blanks_goes, pass_near, pass_again, f_after, seq_pend, to_pend)
 
 -- ---- names
 
 part_near : {k : Mode} → L near part near k
 unfolding part advances
-part_near = search (byte-rules, closer_heads) depth 12
+part_near = search (byte_rules, closer_heads) depth 12
 
 -- A part that was looked over with the blanks behind it.
 part_again : {k : Mode} → L (pend (seq part blanks)) part (pend blanks) k
@@ -185,7 +185,7 @@ object_again = f_wrap steady_object_name (object_fits part) part_again
 
 namespaced_again : {k : Mode} → L (pend (seq part blanks)) namespaced (pend blanks) k
 unfolding namespaced
-namespaced_again = node_flow Kind.namespaced refl (search (blank-rules, other_part_near, other_part_again) depth 8)
+namespaced_again = node_flow Kind.namespaced refl (search (blank_rules, other_part_near, other_part_again) depth 8)
 
 dotted_part_near : {k : Mode} → L near dotted_part near k
 unfolding dotted_part clear other_part part need
@@ -193,7 +193,7 @@ dotted_part_near = f_marked (f_said {r = other_part} refl other_part_near (f_ref
 
 member_again : {k : Mode} → L (pend (seq part blanks)) member (pend blanks) k
 unfolding member advances dotted blanks expect need
-member_again = node_flow Kind.member refl (search (blank-rules, object_again, dotted_part_near) depth 10)
+member_again = node_flow Kind.member refl (search (blank_rules, object_again, dotted_part_near) depth 10)
 
 element_name_flow : {k : Mode} → L near element_name (pend blanks) k
 unfolding element_name
@@ -208,15 +208,15 @@ attribute_name_flow = after_near look_goes look_near namespaced_again other_part
 
 text_near : {k : Mode} → L near text near k
 unfolding text advances
-text_near = node_flow Kind.text refl (search byte-rules)
+text_near = node_flow Kind.text refl (search byte_rules)
 
 quoted_near : {k : Mode} → L near quoted near k
 unfolding quoted quoted_by quoted_turn advances
-quoted_near = node_flow Kind.quoted refl (search byte-rules depth 12)
+quoted_near = node_flow Kind.quoted refl (search byte_rules depth 12)
 
 word_near : {k : Mode} → L near word near k
 unfolding word advances
-word_near = search byte-rules
+word_near = search byte_rules
 
 primary_word_near : {k : Mode} → L near primary_word near k
 unfolding primary_word clear word need
@@ -224,13 +224,13 @@ primary_word_near = f_marked (f_said {r = word} refl word_near (f_refuse refl) f
 
 number_near : {k : Mode} → L near number near k
 unfolding number whole fraction digits advances
-number_near = search byte-rules depth 12
+number_near = search byte_rules depth 12
 
 string_near : {k : Mode} → L near string near k
 unfolding string string_by string_turn advances
-string_near = search byte-rules depth 12
+string_near = search byte_rules depth 12
 
-ruleset flow-rules = (blank-rules, word_near, primary_word_near, number_near, string_near)
+ruleset flow_rules = (blank_rules, word_near, primary_word_near, number_near, string_near)
 
 -- ---- what may be entered one level deeper
 
@@ -254,7 +254,7 @@ pub record InnerFlow (n : Inner) : Type 0 where
 -- Behind an element that is no child.
 no_sibling_flow : (x : ℕ) → eqb x 0 ≡ false → {k : Mode} → L (pend blanks) (no_sibling x) (pend blanks) k
 unfolding no_sibling sibling lacking closer
-no_sibling_flow x e = search (blank-rules, e) depth 8
+no_sibling_flow x e = search (blank_rules, e) depth 8
 
 turn_advances : (f : Test) (op next : Rule) → advances op ≡ true → advances (joined_turn f op next) ≡ true
 unfolding joined_turn advances blanks
@@ -266,7 +266,7 @@ joined_flow : (f : Test) (op next : Rule)
     → ((k : Mode) → L near next (pend blanks) k)
     → {k : Mode} → L near (joined f op next) (pend blanks) k
 unfolding joined joined_turn
-joined_flow f op next a x y = search (blank-rules, turn_advances f op next a, x, y) depth 8
+joined_flow f op next a x y = search (blank_rules, turn_advances f op next a, x, y) depth 8
 
 module _ (n : Inner) (h : InnerFlow n) where
   -- An element that is no child.
@@ -279,15 +279,15 @@ module _ (n : Inner) (h : InnerFlow n) where
 
   postfix_flow : {k : Mode} → L near (postfix n) (pend blanks) k
   unfolding postfix postfix_turn primary
-  postfix_flow = search (flow-rules, postfix_turn_advances, h.paren, h.bracket, h.call) depth 12
+  postfix_flow = search (flow_rules, postfix_turn_advances, h.paren, h.bracket, h.call) depth 12
 
   unary_flow : {k : Mode} → L near (unary n) (pend blanks) k
   unfolding unary lacking closer
-  unary_flow = search (flow-rules, h.prefix, element_near, no_sibling_flow, postfix_flow) depth 8
+  unary_flow = search (flow_rules, h.prefix, element_near, no_sibling_flow, postfix_flow) depth 8
 
   conditional_flow : {k : Mode} → L near (conditional n) (pend blanks) k
   unfolding conditional question either both sum product times plus_minus and_and or_or advances lacking closer
-  conditional_flow = search (flow-rules, joined_flow, unary_flow, h.choice) depth 16
+  conditional_flow = search (flow_rules, joined_flow, unary_flow, h.choice) depth 16
 
   expression_flow : {k : Mode} → L near (expression n) (pend blanks) k
   unfolding expression
@@ -297,7 +297,7 @@ module _ (n : Inner) (h : InnerFlow n) where
 
   container_again : {k : Mode} → L (pend pass) (container n) shut k
   unfolding container close_container closer
-  container_again = node_flow Kind.container refl (search (flow-rules, expression_flow, expect_shut) depth 8)
+  container_again = node_flow Kind.container refl (search (flow_rules, expression_flow, expect_shut) depth 8)
 
   empty_braces_again : {k : Mode} → L (pend pass) empty_braces shut k
   unfolding empty_braces pass closer goes clear
@@ -307,21 +307,21 @@ module _ (n : Inner) (h : InnerFlow n) where
 
   dots_near : {k : Mode} → L near dots near k
   unfolding dots lacking closer
-  dots_near = search byte-rules
+  dots_near = search byte_rules
 
   spread_again : (x : ℕ) → paired_label (node x 0) ≡ false → {k : Mode} → L (pend pass) (spread x n) shut k
   unfolding spread closer
-  spread_again x e = node_flow x e (search (flow-rules, dots_near, expression_flow, expect_shut) depth 8)
+  spread_again x e = node_flow x e (search (flow_rules, dots_near, expression_flow, expect_shut) depth 8)
 
   -- ---- tags
 
   value_flow : {k : Mode} → L near (value n) (pend blanks) k
   unfolding value
-  value_flow = search (flow-rules, shut_to_pend, quoted_near, h.value_braces, element_near, no_sibling_flow) depth 8
+  value_flow = search (flow_rules, shut_to_pend, quoted_near, h.value_braces, element_near, no_sibling_flow) depth 8
 
   named_attribute_flow : {k : Mode} → L near (named_attribute n) (pend blanks) k
   unfolding named_attribute initializer
-  named_attribute_flow = node_flow Kind.attribute refl (search (flow-rules, attribute_name_flow, value_flow) depth 8)
+  named_attribute_flow = node_flow Kind.attribute refl (search (flow_rules, attribute_name_flow, value_flow) depth 8)
 
   attribute_turn_advances : advances (attribute_turn n) ≡ true
   unfolding attribute_turn attribute named_attribute attribute_name namespaced other_part part need advances blanks
@@ -330,7 +330,7 @@ module _ (n : Inner) (h : InnerFlow n) where
   attributes_flow : {k : Mode} → L (pend blanks) (attributes n) near k
   unfolding attributes attribute_turn attribute
   attributes_flow =
-      search (flow-rules, attribute_turn_advances, shut_to_pend, h.spread_braces, named_attribute_flow) depth 8
+      search (flow_rules, attribute_turn_advances, shut_to_pend, h.spread_braces, named_attribute_flow) depth 8
 
   tag_end_shut : L near tag_end shut shut
   unfolding tag_end closer
@@ -338,14 +338,14 @@ module _ (n : Inner) (h : InnerFlow n) where
 
   open_tag_again : L (pend pass) (open_tag n) shut shut
   unfolding open_tag
-  open_tag_again = node_flow Kind.opening_tag refl (search (flow-rules, element_name_flow, attributes_flow, tag_end_shut))
+  open_tag_again = node_flow Kind.opening_tag refl (search (flow_rules, element_name_flow, attributes_flow, tag_end_shut))
 
   -- ---- children and elements
 
   child_flow : L near (child n) near (pend pass)
   unfolding child
   child_flow =
-      search (flow-rules, after_near, pass_goes, stop_pend, shut_to_near, text_near, h.element, h.child_braces) depth 8
+      search (flow_rules, after_near, pass_goes, stop_pend, shut_to_near, text_near, h.element, h.child_braces) depth 8
 
   child_advances : advances (child n) ≡ true
   unfolding child advances text
@@ -364,7 +364,7 @@ close_tag_again : {k : Mode} → L (pend pass) close_tag shut k
 unfolding close_tag close_name expect pass goes clear closer
 close_tag_again = node_flow Kind.closing_tag refl
     (f_seq (f_when seen_pend (f_pass refl refl step_near) (need_flow seen_pend))
-    (search (flow-rules, element_name_flow, expect_shut) depth 10))
+    (search (flow_rules, element_name_flow, expect_shut) depth 10))
 
 close_tag_clear : clear close_tag ≡ true
 unfolding clear close_tag close_name expect need element_name namespaced member one_part other_part object dotted dotted_part
@@ -396,7 +396,7 @@ module _ (d : ℕ) (h : InnerFlow (within d)) where
 none_flow : InnerFlow no_level
 unfolding no_level element_too_deep advances pass
 none_flow = record {
-  element = search (flow-rules, closer_heads);
+  element = search (flow_rules, closer_heads);
   child_braces = f_refuse refl;
   value_braces = f_refuse refl;
   spread_braces = f_refuse refl;
@@ -420,13 +420,13 @@ level_flow d h = let n = within d in record {
   element = element_in_again d h;
   child_braces = after_near pass_goes pass_near (empty_braces_again n h)
       (f_after pass_goes pass_near (spread_again n h Kind.spread_child refl) (container_again n h));
-  value_braces = search (flow-rules, after_near, pass_goes, container_again n h) depth 8;
+  value_braces = search (flow_rules, after_near, pass_goes, container_again n h) depth 8;
   spread_braces = f_weak near_pend same same (spread_again n h Kind.spread_attribute refl);
-  paren = search (flow-rules, conditional_flow n h) depth 8;
-  bracket = search (flow-rules, conditional_flow n h) depth 8;
-  call = search (flow-rules, conditional_flow n h) depth 12;
-  prefix = search (flow-rules, unary_flow n h);
-  choice = search (flow-rules, conditional_flow n h) depth 8;
+  paren = search (flow_rules, conditional_flow n h) depth 8;
+  bracket = search (flow_rules, conditional_flow n h) depth 8;
+  call = search (flow_rules, conditional_flow n h) depth 12;
+  prefix = search (flow_rules, unary_flow n h);
+  choice = search (flow_rules, conditional_flow n h) depth 8;
   spread_braces_advances = refl;
   element_advances = element_in_advances d h;
   child_braces_advances = refl;
@@ -454,4 +454,4 @@ run_flow d = f_seq (children_reach d) (f_when seen_pend f_done (f_refuse refl))
 -- A stage has looked at the byte behind it.
 pub stage_flow : (d : ℕ) {k : Mode} → L near (stage d) near k
 unfolding stage
-stage_flow d = search (flow-rules, shut_to_pend, element_near (within d) (within_flow d), no_sibling_flow) depth 8
+stage_flow d = search (flow_rules, shut_to_pend, element_near (within d) (within_flow d), no_sibling_flow) depth 8

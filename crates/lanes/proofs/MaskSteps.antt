@@ -123,4 +123,4 @@ pub any_marked : (a b c d : ℕ) {w r₁ r₂ r₃ r₄ : ℕ}
     → Marked (any_of a b c d) w (bit_xor (bit_and r₁ (bit_and r₂ (bit_and r₃ r₄))) 0xFFFFFFFFFFFFFFFF)
 any_marked a b c d u v x y = cleared_marked (both_cleared u (both_cleared v (both_cleared x y)))
 
-pub ruleset mask-steps = (beyond_marked, zeros_fit, zeros_cleared, equal_cleared, cleared_marked, any_marked)
+pub ruleset mask_steps = (beyond_marked, zeros_fit, zeros_cleared, equal_cleared, cleared_marked, any_marked)

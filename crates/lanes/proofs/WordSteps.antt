@@ -102,7 +102,7 @@ module _ (s : List ℕ) (each : (k : ℕ) → Fits w8 (get_or s k 0)) (p : ℕ) 
 pub lane_fits : (h n : ℕ) → count_trailing_zeros 64 h / n < 2 ^ 64
 lane_fits h n = let l = trailing_le 64 h in let m = div-le_self (count_trailing_zeros 64 h) n in omega arith
 
-pub ruleset word-steps = (
+pub ruleset word_steps = (
   byte_fits,
   byte_times,
   bytes_fit,

@@ -78,4 +78,4 @@ module _ {t : List ℕ} {k : ℕ} {s : List ℕ} {a n i : ℕ} (v : Compared t k
   unfolding same bytes_from
   compared_all h = let j : n - i ≡ 0 = omega arith in sym (simp j at v.so)
 
-pub ruleset same-steps = (rules, compared_none, compared_differ, compared_more, compared_all)
+pub ruleset same_steps = (rules, compared_none, compared_differ, compared_more, compared_all)

@@ -69,7 +69,7 @@ module _ (s : List ℕ) (at a : ℕ) {b : ℕ} (e : b ≡ byte_at s at) where
     pub behind_first : (u : List ℕ) {y : ℕ} → a < 256 → y ≡ at + 1 → u ≡ s → y ≤ length u
     behind_first u i f g = let j = Laws.before_end s at a (sym e ∙ h) i in rw (f, g) (omega arith)
 
-pub ruleset lex-steps = (
+pub ruleset lex_steps = (
   rules,
   byte_there,
   byte_end,

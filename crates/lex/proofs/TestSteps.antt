@@ -30,4 +30,4 @@ module _ {x t : Bool} (i : t ≡ x) where
   pub or_second : {y u : Bool} → t ≡ false → u ≡ y → u ≡ pick x true y
   or_second h j = j ∙ sym (rw (sym i ∙ h))
 
-pub ruleset test-steps = (range_from, range_under, or_first, or_second, is_first, is_second)
+pub ruleset test_steps = (range_from, range_under, or_first, or_second, is_first, is_second)

@@ -15,4 +15,4 @@ put_fits o at b h = let e = length-set o at b in omega arith
 pub part_counts : (e : ℕ) (o : List ℕ) → e ≤ length o → e ≡ length (take e o)
 part_counts e o h = sym (length-take-le e o h)
 
-pub ruleset line-steps = (rules, put_fits, part_counts)
+pub ruleset line_steps = (rules, put_fits, part_counts)

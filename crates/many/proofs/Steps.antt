@@ -40,7 +40,7 @@ module _ {letter : ℕ} (l : Limits) (s t : List ℕ) {r : Reply} (t' : List ℕ
   unfolding reading
   answer_run n v = let f = ne_eqb letter (code "s") n in rw f v
 
-pub ruleset answer-steps = (rules, answer_stage, answer_run)
+pub ruleset answer_steps = (rules, answer_stage, answer_run)
 
 -- ---- what is printed of it
 
@@ -69,9 +69,9 @@ module _ (letter : ℕ) {l : Limits} {s t t' : List ℕ} {x r : Reply} (v : Read
 pub part_counts : (e : ℕ) (o : List ℕ) → e ≤ length o → e ≡ length (take e o)
 part_counts e o h = sym (length-take-le e o h)
 
-pub ruleset part-asked = (rules, part_counts)
+pub ruleset part_asked = (rules, part_counts)
 
-pub ruleset answer-asked = (rules, part_counts, answer_small, answer_numbered)
+pub ruleset answer_asked = (rules, part_counts, answer_small, answer_numbered)
 
 -- A text that was put at the front, and has room, is within the buffer.
 pub front_fits : {e k : ℕ} {u o o' : List ℕ} → Prints e 0 k u o o' → k ≤ length o → e ≤ length o'
@@ -80,7 +80,7 @@ front_fits {e} {k} {u} {o} {o'} x h =
     let f = x.near in
     omega arith
 
-pub ruleset front-asked = (rules, front_fits)
+pub ruleset front_asked = (rules, front_fits)
 
 module _ {x : Reply} (o : List ℕ) (room : text_room 1_024 ≤ length o) where
   -- An answer of few rows has room,
@@ -95,7 +95,7 @@ module _ {x : Reply} (o : List ℕ) (room : text_room 1_024 ≤ length o) where
 pub accepted_small : {x : Reply} {m k : ℕ} → Small x → x ≡ Accepted m → k ≡ m → k < 2 ^ 32
 accepted_small v e f = let w = subst Small e v in omega arith
 
-pub ruleset short-asked = (rules, accepted_fits, refused_fits, accepted_small)
+pub ruleset short_asked = (rules, accepted_fits, refused_fits, accepted_small)
 
 -- ---- a store
 
@@ -105,4 +105,4 @@ pub store_held : (s : List ℕ) (r : Settled) {l : Given.Limits} → settled_of 
     → limits_of l ≡ held (settings s)
 store_held s r v h = h ∙ ap held v
 
-pub ruleset store-steps = (rules, store_held)
+pub ruleset store_steps = (rules, store_held)

@@ -186,9 +186,9 @@ pub dotted_length : {s : List ℕ} {at : ℕ} {q : Seat} {t₀ : List ℕ} {p m 
     → length t ≡ length t₀
 dotted_length v = v.here.long
 
-pub ruleset dotted-steps = (rules, dotted_begin, turn_stops, turn_ends, turn_stops_behind, turn_refused, turn_goes_on)
+pub ruleset dotted_steps = (rules, dotted_begin, turn_stops, turn_ends, turn_stops_behind, turn_refused, turn_goes_on)
 
-pub ruleset dotted-asked = (
+pub ruleset dotted_asked = (
   rules,
   turn_inside,
   turn_slot,

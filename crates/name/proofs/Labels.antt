@@ -111,7 +111,7 @@ module _ (s : List ℕ) (a b : ℕ) {v : Bool} (l : v ≡ is_this (bytes_from s 
   unfolding object_name
   object_other h = rw (sym l ∙ h)
 
-pub ruleset kind-steps = (
+pub ruleset kind_steps = (
   rules,
   name_dashed,
   name_reference,

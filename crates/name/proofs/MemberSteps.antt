@@ -27,7 +27,7 @@ use Rattle.table.specs.Contract.{Start, Words, Stored}
 use Rattle.table.specs.Reader.{Room, Made}
 use Rattle.table.proofs.Made.{refused, made_no, made_lent}
 use Rattle.table.proofs.Upto.{Upto, upto_begin, upto_count, same_seat, made_goes, last_made, node_made, node_no}
-use Rattle.table.proofs.Asked.{reader-asked}
+use Rattle.table.proofs.Asked.{reader_asked}
 use Rattle.name.specs.Contract.{Spelt}
 use Rattle.name.proofs.Parts.{object_made}
 
@@ -123,6 +123,6 @@ module _ {s : List ℕ} {at e : ℕ} {q : Seat} (room : Room 3 s at q) (l : Past
         let far₂ = m.of.far _ _ h in
         rw (f, g₁, g₂, g₃) (omega arith)
 
-pub ruleset member-steps = (rules, member_stops, member_made)
+pub ruleset member_steps = (rules, member_stops, member_made)
 
-pub ruleset member-asked = (reader-asked, member_room, member_words)
+pub ruleset member_asked = (reader_asked, member_room, member_words)

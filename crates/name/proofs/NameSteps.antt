@@ -25,7 +25,7 @@ use Rattle.lex.proofs.Bare.{goes_part, goes_blanks}
 use Rattle.table.specs.Slot.{Seat}
 use Rattle.table.specs.Reader.{Made}
 use Rattle.table.proofs.Made.{refused, made_as}
-use Rattle.table.proofs.Asked.{reader-asked}
+use Rattle.table.proofs.Asked.{reader_asked}
 use Rattle.name.specs.declared.First.{First}
 use Rattle.name.specs.Contract.{Prefix, Spelt}
 use Rattle.name.proofs.Parts.{one_made, other_made}
@@ -169,7 +169,7 @@ module _ {s : List ℕ} {at : ℕ} {r : Ans} (l : Leaf nothing r s part at 1) {e
         colon = rw e₃ (sym y ∙ c);
       })
 
-pub ruleset name-steps = (
+pub ruleset name_steps = (
   rules,
   element_stops,
   element_stops_behind,
@@ -182,4 +182,4 @@ pub ruleset name-steps = (
   attribute_one,
 )
 
-pub ruleset name-asked = (reader-asked, part_begins, part_passed, prefix_seen)
+pub ruleset name_asked = (reader_asked, part_begins, part_passed, prefix_seen)

@@ -30,7 +30,7 @@ use Rattle.table.specs.Reader.{Room, Made}
 use Rattle.table.proofs.Made.{refused}
 use Rattle.table.proofs.Upto.{Upto, upto_begin, same_seat, read_goes, byte_goes, leaf_goes, made_goes, last_made}
 use Rattle.table.proofs.Upto.{last_made_stops, handed_up, node_made, node_no}
-use Rattle.table.proofs.Asked.{reader-asked}
+use Rattle.table.proofs.Asked.{reader_asked}
 use Rattle.name.specs.declared.First.{First}
 use Rattle.name.specs.Contract.{Prefix, Spelt}
 use Rattle.name.proofs.Parts.{other_made}
@@ -164,12 +164,12 @@ module _ {s : List ℕ} {f : First} {q : Seat} (room : Room 3 s f.at q) (pre : P
         let far₃ = m.of.far _ _ h in
         rw (g, g₁, g₂, g₃) (omega arith)
 
-pub ruleset namespaced-steps = (rules, namespaced_stops, namespaced_made)
+pub ruleset namespaced_steps = (rules, namespaced_stops, namespaced_made)
 
-pub ruleset next-steps = (rules, next_stops, next_made)
+pub ruleset next_steps = (rules, next_stops, next_made)
 
-pub ruleset namespaced-asked = (
-  reader-asked,
+pub ruleset namespaced_asked = (
+  reader_asked,
   colon_fits,
   prefix_ordered,
   prefix_inside,

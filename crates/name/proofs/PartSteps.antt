@@ -61,4 +61,4 @@ module _ {r : Ans} {s : List ℕ} {at : ℕ} (l : Leaf nothing r s part at 1) {k
           made_as (part_made w f) dotted_part 1
           (dotted_is s at (Lex.leaf_got goes_part l h) (dash_no _ (g ∙ bytes l h) i).0) (omega arith)
 
-pub ruleset part-steps = (rules, part_stops, part_made, dotted_stops, dotted_dashed, dotted_made)
+pub ruleset part_steps = (rules, part_stops, part_made, dotted_stops, dotted_dashed, dotted_made)

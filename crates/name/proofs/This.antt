@@ -52,4 +52,4 @@ module _ (s : List ℕ) (a b : ℕ) (n : b - a ≡ 4) {x : Bool} (h : x ≡ open
   pub this_not_begun : x ≡ false → false ≡ is_this (bytes_from s a (b - a))
   this_not_begun e = sym (by_first e)
 
-pub ruleset this-steps = (rules, this_long, this_told, this_not_begun)
+pub ruleset this_steps = (rules, this_long, this_told, this_not_begun)

@@ -144,6 +144,6 @@ module _ {c : ℕ} {s : List ℕ} {a : ℕ} {q : Seat} (room : Room c s a q) {b 
       → Words q₁ k₁ a₁ b₁ d₁ 0
   object_words l f g₁ g₂ g₃ g₄ g₅ = let few = object_few w l in small_words (omega arith) f g₁ g₃ g₄ g₅
 
-pub ruleset writer-steps = (rules, name_unstored, object_unstored, part_unstored, spelt, part_spelt, object_spelt)
+pub ruleset writer_steps = (rules, name_unstored, object_unstored, part_unstored, spelt, part_spelt, object_spelt)
 
-pub ruleset writer-asked = (rules, part_words, name_words, object_words)
+pub ruleset writer_asked = (rules, part_words, name_words, object_words)

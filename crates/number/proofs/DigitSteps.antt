@@ -45,4 +45,4 @@ module _ (s : List ℕ) (at : ℕ) {b : ℕ} (y : b ≡ byte_at s at) {t : Bool}
   pub digit_room : t ≡ digit b → t ≡ true → at ≤ length s
   digit_room i x = let o = digit_inside s at (tested digit y i x) in omega arith
 
-pub ruleset digit-steps = (digit_end, digit_inside, run_begins, run_goes_on, digits_end)
+pub ruleset digit_steps = (digit_end, digit_inside, run_begins, run_goes_on, digits_end)

@@ -119,7 +119,7 @@ module _ {s : List ℕ} {at p : ℕ} (w : Past p s whole at 1) {b : ℕ} (y : b 
               any_mark s (suc (length s)) digits 0 at (p + 1) e,
             )
 
-pub ruleset number-steps = (
+pub ruleset number_steps = (
   whole_zero,
   whole_digits,
   end_stops,

@@ -106,7 +106,7 @@ module _ (s : Bor (List ℕ)) (t : List ℕ) (m k : ℕ) {r : Bor (List ℕ)} {f
       → Answered s (record_part s.now t m k) r f
   answers_record h l p q x = answered_as x (record_is s.now t m k h l p q)
 
-pub ruleset part-steps = (
+pub ruleset part_steps = (
   rules,
   answers_none,
   answers_turned,

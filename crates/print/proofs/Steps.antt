@@ -62,6 +62,6 @@ module _ {x : Reply} {m : ℕ} (v : Small x) (h : x ≡ Accepted m) where
       → y + row_bytes * n < 2 ^ 62
   rows_room i x e f = let w : m < 2 ^ 32 = subst Small h v in let z = x.near in omega arith
 
-pub ruleset answer-steps = (rules, answer_rows, answer_no)
+pub ruleset answer_steps = (rules, answer_rows, answer_no)
 
-pub ruleset answer-asked = (rules, rows_fit, rows_room)
+pub ruleset answer_asked = (rules, rows_fit, rows_room)

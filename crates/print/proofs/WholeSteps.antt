@@ -104,6 +104,6 @@ module _ {s t t' : List ℕ} {r : Reply} (z : t ≡ zeros) (v : Reads standard s
       ∙ ap (λ (u : List ℕ). read_into u (answer program_limits stage s)) (z ∙ zeros_are)) in
       record { inside = w.inside; counts = w.counts; is = w.is ∙ f }
 
-pub ruleset whole-steps = (rules, whole_long, whole_answer)
+pub ruleset whole_steps = (rules, whole_long, whole_answer)
 
-pub ruleset whole-asked = (rules, whole_small)
+pub ruleset whole_asked = (rules, whole_small)

@@ -63,7 +63,7 @@ pub two_put : {p q at a b : ℕ} {o o₁ o₂ : List ℕ} → Prints p at 1 (a �
     → Prints q at 2 (a ∷ b ∷ []) o o₂
 two_put x y = then x y
 
-pub ruleset byte-steps = (rules, byte_put, byte_out, two_put)
+pub ruleset byte_steps = (rules, byte_put, byte_out, two_put)
 
 -- ---- numbers
 
@@ -115,7 +115,7 @@ pub field_put : (n : ℕ) {p r at : ℕ} {o o₁ o₂ : List ℕ} → Prints p a
 unfolding field
 field_put n x y = then x y
 
-pub ruleset number-steps = (rules, digits_none, digits_one, digits_more, decimal_put, field_put)
+pub ruleset number_steps = (rules, digits_none, digits_one, digits_more, decimal_put, field_put)
 
 -- ---- rows
 
@@ -211,7 +211,7 @@ rows_more t k {left} {p} {r} {at} {l} {i} {o} {o₁} {o₂} h x y e f = by left 
     by zero g _ = absurd (g refl)
     by (suc n) _ g = let w : l ≡ n = omega arith in said (then x y) (rw (f, w)) (omega arith)
 
-pub ruleset row-steps = (rules, parent_missing, parent_put, word_put, span_put, tree_put, row_put, rows_none, rows_more)
+pub ruleset row_steps = (rules, parent_missing, parent_put, word_put, span_put, tree_put, row_put, rows_none, rows_more)
 
 -- ---- first lines
 
@@ -256,4 +256,4 @@ set_put d n x y z w =
     (ap (λ (l : List ℕ). l ++ (10 ∷ [])) (sym (append_assoc (bytes_of "set") (field d) (field n))))
     (omega arith)
 
-pub ruleset first-line-steps = (rules, ok_put, place_put, no_put, set_put)
+pub ruleset first_line_steps = (rules, ok_put, place_put, no_put, set_put)

@@ -28,14 +28,14 @@ use Rattle.lex.proofs.Laws as Lex
 use Rattle.table.specs.Slot.{Seat, seat_inside, seat_behind}
 use Rattle.table.specs.Contract.{Enterable, Words}
 use Rattle.table.specs.Reader.{Room, Made}
-use Rattle.table.proofs.Asked.{reader-asked, room_here, leaf_inside, past_inside}
+use Rattle.table.proofs.Asked.{reader_asked, room_here, leaf_inside, past_inside}
 use Rattle.closing.specs.declared.Opened.{Opened}
 use Rattle.closing.specs.Close.{Opening}
 use Rattle.reader.specs.declared.Tagged.{Tagged}
 use Rattle.reader.specs.declared.Tagged.TheVariants as T
 use Rattle.reader.specs.Contract.{plain, TagMade, Ready}
 use Rattle.token.proofs.Rules as K
-use Rattle.reader.proofs.Steps.{cycle-asked, node-asked}
+use Rattle.reader.proofs.Steps.{cycle_asked, node_asked}
 
 -- ---- bytes that were seen
 
@@ -178,27 +178,27 @@ module _ {c : ℕ} {s : List ℕ} {at : ℕ} {q : Seat} (room : Room c s at q) {
 
 -- ---- by reader
 
-pub ruleset asked = (cycle-asked, leaf_one_more)
+pub ruleset asked = (cycle_asked, leaf_one_more)
 
-pub ruleset primary-asked = (rules, room_here, seen_name, seen_digit, seen_quote, paren_inside)
+pub ruleset primary_asked = (rules, room_here, seen_name, seen_digit, seen_quote, paren_inside)
 
-pub ruleset tail-asked = (rules, room_here, bracket_inside, paren_inside)
+pub ruleset tail_asked = (rules, room_here, bracket_inside, paren_inside)
 
-pub ruleset unary-asked = (rules, room_here, bang_inside, dash_inside, less_inside)
+pub ruleset unary_asked = (rules, room_here, bang_inside, dash_inside, less_inside)
 
-pub ruleset lone-asked = (cycle-asked, passed)
+pub ruleset lone_asked = (cycle_asked, passed)
 
-pub ruleset cond_asked = (cycle-asked, question_inside)
+pub ruleset cond_asked = (cycle_asked, question_inside)
 
-pub ruleset value-asked = (rules, room_here, leaf_inside, seen_quote, brace_inside, less_inside, passed, leaf_one_more)
+pub ruleset value_asked = (rules, room_here, leaf_inside, seen_quote, brace_inside, less_inside, passed, leaf_one_more)
 
-pub ruleset attr-asked = (node-asked, brace_inside, passed)
+pub ruleset attr_asked = (node_asked, brace_inside, passed)
 
-pub ruleset element-asked = (rules, room_here, past_inside, passed_on, seen_byte)
+pub ruleset element_asked = (rules, room_here, past_inside, passed_on, seen_byte)
 
-pub ruleset child-asked = (rules, room_here, seen_text, less_inside, brace_inside, passed, seen_byte)
+pub ruleset child_asked = (rules, room_here, seen_text, less_inside, brace_inside, passed, seen_byte)
 
-pub ruleset wrapped-asked = (node-asked, past_room)
+pub ruleset wrapped_asked = (node_asked, past_room)
 
 -- ---- a content
 
@@ -269,7 +269,7 @@ content_held ready e = rw e ready.held
 pub opening_on : {s : List ℕ} {o : Opened} → Opening s o → {u : List ℕ} {o₁ : Opened} → u ≡ s → o₁ ≡ o → Opening u o₁
 opening_on v e f = rw (e, f) v
 
-pub ruleset content-asked = (
+pub ruleset content_asked = (
   rules,
   content_enter,
   content_behind_lem,
@@ -353,8 +353,8 @@ module _ {s : List ℕ} {at : ℕ} {q : Seat} (room : Room 3 s at q) {a : ℕ} (
         from = omega arith;
       })
 
-pub ruleset named-asked = (
-  reader-asked,
+pub ruleset named_asked = (
+  reader_asked,
   past_room_deep,
   tag_words,
   single_words,
@@ -446,8 +446,8 @@ module _ {s : List ℕ} {at : ℕ} {q : Seat} (room : Room 3 s at q) {a : ℕ} (
 pub fragment_wide : {s : List ℕ} {at a k : ℕ} {g : Rule} → Past a s g at k → {x y : ℕ} → x ≡ at → y ≡ a + 1 → x ≤ y
 fragment_wide pa e f = let fp = pa.far in rw (e, f) (omega arith)
 
-pub ruleset fragment-asked = (
-  reader-asked,
+pub ruleset fragment_asked = (
+  reader_asked,
   fragment_one_more,
   fragment_words,
   fragment_room,

@@ -198,7 +198,7 @@ module _ (d : ℕ) {s : List ℕ} {at : ℕ} {c : ℕ} {q : Seat} (room : Room c
         let far₂ = l₂.far _ _ h₂ in
         reader_leaf held_begun (R.goes_expression d) l K.goes_shut_braces K.bare_shut_braces h l₂ 2 h₂ (omega arith) f g
 
-pub ruleset in-held-steps = (held_refuses, held_refuses_behind, held_is)
+pub ruleset in_held_steps = (held_refuses, held_refuses_behind, held_is)
 
 -- ---- the inside of `{...expression}`
 
@@ -240,7 +240,7 @@ module _ (d : ℕ) {s : List ℕ} {at : ℕ} {c : ℕ} {q : Seat} (room : Room c
             reader_leaf spread_dots (R.goes_expression d) l₂ (goes_close (code "}")) (bare_close (code "}")) h₂ l₃ 2 h₃
             (omega arith) f g
 
-pub ruleset in-spread-steps = (spread_refuses, spread_refuses_inside, spread_refuses_behind, spread_is)
+pub ruleset in_spread_steps = (spread_refuses, spread_refuses_inside, spread_refuses_behind, spread_is)
 
 -- ---- a value
 
@@ -349,7 +349,7 @@ module _ (d : ℕ) (s : List ℕ) (at : ℕ) {b : ℕ} (y : b ≡ byte_at s at) 
           (Lex.leaf_refuses {k = 1} l refl (Lex.need_fails s at))
           (sym (no_braces ∙ Lex.when_no s (suc (length s)) 0 at (is "<") _ need (Lex.byte_not y x₃))) (omega arith)
 
-pub ruleset value-steps = (
+pub ruleset value_steps = (
   value_quoted,
   value_deep,
   value_refuses,
@@ -478,7 +478,7 @@ module _ (d : ℕ) {s : List ℕ} {at : ℕ} {q : Seat} {r : Ans} {t t₁ : List
             (upto_made 1 (last_made in_attr_value (made_lent t₁ st l₃ w) (R.goes_value d) eq (omega arith) h₃)
             (omega arith))
 
-pub ruleset in-attr-steps = (
+pub ruleset in_attr_steps = (
   in_attr_refuses,
   in_attr_refuses_behind,
   in_attr_alone,
@@ -513,4 +513,4 @@ module _ (d : ℕ) (s : List ℕ) (at : ℕ) {b : ℕ} (y : b ≡ byte_at s at) 
     attr_spread h l₂ =
         made_as l₂ (attribute (within d)) 1 (sym (attr_braces ∙ L.spread_braces_is s at d deep)) (omega arith)
 
-pub ruleset attr-spread-steps = (attr_deep, attr_refuses, attr_spread)
+pub ruleset attr_spread_steps = (attr_deep, attr_refuses, attr_spread)

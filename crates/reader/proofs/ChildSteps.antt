@@ -252,7 +252,7 @@ module _ (d : ℕ) (s : List ℕ) (at : ℕ) {b : ℕ} (y : b ≡ byte_at s at) 
           ∙ Lex.when_no s (suc (length s)) 0 at in_text text (refuse stray_in_text here) (Lex.tested in_text y e h) in
           child_no (within d) stray refl
 
-pub ruleset child-steps = (
+pub ruleset child_steps = (
   child_text,
   child_refuses,
   child_closing,
@@ -333,6 +333,6 @@ module _ (d : ℕ) {s : List ℕ} {c at : ℕ} {q : Seat} {t₀ : List ℕ} {p m
         let short = v.room.short in
         omega arith
 
-pub ruleset kids-steps = (loop_begins, kids_refuse, kids_end, kids_again)
+pub ruleset kids_steps = (loop_begins, kids_refuse, kids_end, kids_again)
 
-pub ruleset kids-asked = (kids_less, kids_fit)
+pub ruleset kids_asked = (kids_less, kids_fit)

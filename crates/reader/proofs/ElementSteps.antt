@@ -77,7 +77,7 @@ module _ (d : ℕ) {s : List ℕ} {at : ℕ} where
         made_as l₂ (within d).element 1 (sym (L.element_is s at d deep ∙ passed_over l (is ">") _ _ ∙ rw e))
         (omega arith)
 
-pub ruleset element-steps = (element_too_deep_lem, element_fragment, element_named)
+pub ruleset element_steps = (element_too_deep_lem, element_fragment, element_named)
 
 -- ---- one that is no child
 
@@ -114,4 +114,4 @@ module _ (d n : ℕ) {s : List ℕ} {at : ℕ} {c : ℕ} {q : Seat} (room : Room
           reader_leaf lone_begun (within_goes d).element l₂ (goes_sibling n) (bare_sibling n) h₂ l₃ 1 h₃
           (omega arith) f g
 
-pub ruleset lone-steps = (lone_refuses, lone_refuses_inside, lone_refuses_behind, lone_is)
+pub ruleset lone_steps = (lone_refuses, lone_refuses_inside, lone_refuses_behind, lone_is)

@@ -117,7 +117,7 @@ module _ (c d : ℕ) {s : List ℕ} {at : ℕ} {q : Seat} {t : List ℕ} where
             let far₃ = l₃.far _ _ h₃ in
             reader_leaf group_open (R.goes_cond (d - 1)) l₂ (goes_close c) (bare_close c) h₂ l₃ 1 h₃ (omega arith) f g
 
-pub ruleset group-steps = (group_deep, group_refuses, group_refuses_inside, group_refuses_behind, group_is)
+pub ruleset group_steps = (group_deep, group_refuses, group_refuses_inside, group_refuses_behind, group_is)
 
 -- ---- `!` and `-`
 
@@ -140,7 +140,7 @@ module _ (d : ℕ) {s : List ℕ} {at : ℕ} {q : Seat} {t : List ℕ} where
         let begun = upto_as (upto_begin (within d).prefix q 0 t (omega arith)) (L.prefix_is s at d deep) in
         handed_up 1 (leaf_goes begun l K.goes_pass K.bare_pass h) (R.goes_unary (d - 1)) l₂ refl refl (omega arith)
 
-pub ruleset prefix-steps = (prefix_deep, prefix_refuses, prefix_is)
+pub ruleset prefix_steps = (prefix_deep, prefix_refuses, prefix_is)
 
 -- ---- calls
 
@@ -190,7 +190,7 @@ module _ (d : ℕ) {s : List ℕ} {at : ℕ} {q : Seat} {t : List ℕ} where
           handed_up 1 (upto_else call_open y (ne_eqb b (code ")") x)) (R.goes_arguments (d - 1)) l₂ refl refl
           (omega arith)
 
-pub ruleset call-steps = (call_deep, call_refuses, call_empty, call_is)
+pub ruleset call_steps = (call_deep, call_refuses, call_empty, call_is)
 
 -- Conditionals and `)`.
 module _ (d : ℕ) {s : List ℕ} {at : ℕ} {q : Seat} {r : Ans} {t t₁ : List ℕ}
@@ -241,7 +241,7 @@ module _ (d : ℕ) {s : List ℕ} {at : ℕ} {q : Seat} {r : Ans} {t t₁ : List
             (upto_made 1 (last_leaf (args_all w) l₃ (goes_expect (code ")")) (R.bare_expect (code ")")) h₃)
             (omega arith))
 
-pub ruleset args-steps = (args_refuses, args_refuses_inside, args_refuses_behind, args_are)
+pub ruleset args_steps = (args_refuses, args_refuses_inside, args_refuses_behind, args_are)
 
 -- ---- a primary
 
@@ -304,7 +304,7 @@ module _ (d : ℕ) (s : List ℕ) (at : ℕ) {b : ℕ} (y : b ≡ byte_at s at) 
             (sym (not_string ∙ Lex.when_no s (suc (length s)) 0 at (is "(") (within d).paren need (Lex.byte_not y x₄)))
             (omega arith)
 
-pub ruleset primary-steps = (primary_word_lem, primary_number, primary_string, primary_group, primary_none)
+pub ruleset primary_steps = (primary_word_lem, primary_number, primary_string, primary_group, primary_none)
 
 -- ---- behind a primary
 
@@ -355,7 +355,7 @@ module _ (d : ℕ) (s : List ℕ) (at : ℕ) {b : ℕ} (y : b ≡ byte_at s at) 
           (sym (no_bracket ∙ Lex.when_no s (suc (length s)) 0 at (is "(") (within d).call need (Lex.byte_not y x₃)))
           (omega arith)
 
-pub ruleset tail-steps = (tail_word, tail_bracket, tail_call, tail_none)
+pub ruleset tail_steps = (tail_word, tail_bracket, tail_call, tail_none)
 
 -- ---- a unary
 
@@ -432,7 +432,7 @@ module _ (d : ℕ) (s : List ℕ) (at : ℕ) {b : ℕ} (y : b ≡ byte_at s at) 
           (sym (no_dash_lem ∙ Lex.when_no s (suc (length s)) 0 at (is "<") _ (postfix (within d)) (Lex.byte_not y x₃)))
           (omega arith)
 
-pub ruleset unary-steps = (unary_bang, unary_twice, unary_dash, unary_element, unary_postfix)
+pub ruleset unary_steps = (unary_bang, unary_twice, unary_dash, unary_element, unary_postfix)
 
 -- ---- a conditional
 
@@ -492,7 +492,7 @@ module _ (d : ℕ) {s : List ℕ} {at : ℕ} {q : Seat} {r : Ans} {t t₁ : List
             (upto_made 1 (last_made cond_asked (made_lent t₁ st l₃ w) (R.goes_question d) eq (omega arith) h₃)
             (omega arith))
 
-pub ruleset cond-steps = (cond_refuses, cond_refuses_behind, cond_alone, cond_refuses_inside, cond_is)
+pub ruleset cond_steps = (cond_refuses, cond_refuses_behind, cond_alone, cond_refuses_inside, cond_is)
 
 -- ---- a choice
 
@@ -543,7 +543,7 @@ module _ (d : ℕ) (s : List ℕ) (at : ℕ) {f : Bool}
             (choice_here ∙ L.choice_is s at d deep) in
             handed_up 1 (leaf_goes begun l K.goes_pass K.bare_pass x) (R.goes_arms (d - 1)) l₂ refl refl (omega arith)
 
-pub ruleset choice-steps = (choice_dot, choice_twice, choice_deep, choice_refuses, choice_is)
+pub ruleset choice_steps = (choice_dot, choice_twice, choice_deep, choice_refuses, choice_is)
 
 -- ---- its arms
 
@@ -587,4 +587,4 @@ module _ (d : ℕ) {s : List ℕ} {at : ℕ} {c : ℕ} {q : Seat} (room : Room c
           rw (f, g)
           (upto_made 1 (last_made arms_second (made_lent t₁ st l₃ w) (R.goes_cond d) eq (omega arith) h₃) (omega arith))
 
-pub ruleset arms-steps = (arms_refuse, arms_refuse_behind, arms_refuse_inside, arms_are)
+pub ruleset arms_steps = (arms_refuse, arms_refuse_behind, arms_refuse_inside, arms_are)

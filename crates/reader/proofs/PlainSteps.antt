@@ -32,4 +32,4 @@ pub tagged_refuses : {r : Ans} {n a b c d n₁ a₁ b₁ c₁ d₁ : ℕ} → r 
 unfolding plain
 tagged_refuses h e₁ e₂ e₃ e₄ e₅ = rw (e₁, e₂, e₃, e₄, e₅) (sym h)
 
-pub ruleset plain-steps = (rules, plain_got, plain_refuses, tagged_got, tagged_refuses)
+pub ruleset plain_steps = (rules, plain_got, plain_refuses, tagged_got, tagged_refuses)

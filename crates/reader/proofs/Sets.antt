@@ -11,106 +11,106 @@ use Rattle.reader.proofs.Asked as A
 
 -- ---- expressions
 
-pub ruleset group-set = (rules, E.group-steps)
+pub ruleset group_set = (rules, E.group_steps)
 
-pub ruleset call-set = (rules, E.call-steps)
+pub ruleset call_set = (rules, E.call_steps)
 
-pub ruleset args-set = (rules, E.args-steps)
+pub ruleset args_set = (rules, E.args_steps)
 
-pub ruleset more-set = (rules, S.loop-steps, C.more_loops, C.more_turns)
+pub ruleset more_set = (rules, S.loop_steps, C.more_loops, C.more_turns)
 
-pub ruleset primary-set = (rules, E.primary-steps)
+pub ruleset primary_set = (rules, E.primary_steps)
 
-pub ruleset tail-set = (rules, E.tail-steps)
+pub ruleset tail_set = (rules, E.tail_steps)
 
-pub ruleset tails-set = (rules, S.loop-steps, C.tails_loops, C.tails_turns)
+pub ruleset tails_set = (rules, S.loop_steps, C.tails_loops, C.tails_turns)
 
-pub ruleset postfix-set = (rules, S.two_steps, C.postfix_splits, C.postfix_begins)
+pub ruleset postfix_set = (rules, S.two_steps, C.postfix_splits, C.postfix_begins)
 
-pub ruleset prefix-set = (rules, E.prefix-steps)
+pub ruleset prefix_set = (rules, E.prefix_steps)
 
-pub ruleset lone-set = (rules, L.lone-steps)
+pub ruleset lone_set = (rules, L.lone_steps)
 
-pub ruleset unary-set = (rules, E.unary-steps)
+pub ruleset unary_set = (rules, E.unary_steps)
 
-pub ruleset Joins-set = (rules, S.loop-steps, C.joins_loops, C.joins_turns)
+pub ruleset Joins_set = (rules, S.loop_steps, C.joins_loops, C.joins_turns)
 
-pub ruleset either-set = (rules, S.two_steps, C.either_splits, C.either_begins)
+pub ruleset either_set = (rules, S.two_steps, C.either_splits, C.either_begins)
 
-pub ruleset cond-set = (rules, E.cond-steps)
+pub ruleset cond_set = (rules, E.cond_steps)
 
-pub ruleset choice-set = (rules, E.choice-steps)
+pub ruleset choice_set = (rules, E.choice_steps)
 
-pub ruleset arms-set = (rules, E.arms-steps)
+pub ruleset arms_set = (rules, E.arms_steps)
 
-pub ruleset expr-set = (rules, S.node-steps, B.expr_wraps, B.expr_holds)
+pub ruleset expr_set = (rules, S.node_steps, B.expr_wraps, B.expr_holds)
 
 -- ---- braces and attributes
 
-pub ruleset in-held-set = (rules, B.in-held-steps)
+pub ruleset in_held_set = (rules, B.in_held_steps)
 
 pub ruleset held_set = (rules, S.node_refuses, B.held_holds, B.held_made)
 
-pub ruleset in-spread-set = (rules, B.in-spread-steps)
+pub ruleset in_spread_set = (rules, B.in_spread_steps)
 
-pub ruleset spread-set = (rules, S.node_refuses, B.spread_holds, B.spread_made)
+pub ruleset spread_set = (rules, S.node_refuses, B.spread_holds, B.spread_made)
 
-pub ruleset value_set = (rules, B.value-steps)
+pub ruleset value_set = (rules, B.value_steps)
 
-pub ruleset in-attr-set = (rules, B.in-attr-steps)
+pub ruleset in_attr_set = (rules, B.in_attr_steps)
 
-pub ruleset attr-set = (rules, S.node-steps, B.attr_wraps, B.attr_holds, B.attr-spread-steps)
+pub ruleset attr_set = (rules, S.node_steps, B.attr_wraps, B.attr_holds, B.attr_spread_steps)
 
-pub ruleset attrs-set = (rules, S.loop-steps, C.attrs_loops, C.attrs_turns)
+pub ruleset attrs_set = (rules, S.loop_steps, C.attrs_loops, C.attrs_turns)
 
 -- ---- elements
 
-pub ruleset in-tag-set = (rules, T.in-tag-steps)
+pub ruleset in_tag_set = (rules, T.in_tag_steps)
 
-pub ruleset content-set = (rules, T.content-steps)
+pub ruleset content_set = (rules, T.content_steps)
 
-pub ruleset Named-set = (rules, T.named-steps)
+pub ruleset Named_set = (rules, T.named_steps)
 
-pub ruleset fragment-set = (rules, T.fragment-steps)
+pub ruleset fragment_set = (rules, T.fragment_steps)
 
-pub ruleset element-set = (rules, L.element-steps)
+pub ruleset element_set = (rules, L.element_steps)
 
-pub ruleset child-set = (rules, H.child-steps)
+pub ruleset child_set = (rules, H.child_steps)
 
-pub ruleset children-set = (rules, H.kids-steps)
+pub ruleset children_set = (rules, H.kids_steps)
 
 -- ---- what their calls ask
 
 pub ruleset asked = (A.asked)
 
-pub ruleset primary-asked = (A.primary-asked)
+pub ruleset primary_asked = (A.primary_asked)
 
-pub ruleset tail-asked = (A.tail-asked)
+pub ruleset tail_asked = (A.tail_asked)
 
-pub ruleset unary-asked = (A.unary-asked)
+pub ruleset unary_asked = (A.unary_asked)
 
-pub ruleset lone-asked = (A.lone-asked)
+pub ruleset lone_asked = (A.lone_asked)
 
 pub ruleset cond_asked = (A.cond_asked)
 
-pub ruleset value-asked = (A.value-asked)
+pub ruleset value_asked = (A.value_asked)
 
-pub ruleset attr-asked = (A.attr-asked)
+pub ruleset attr_asked = (A.attr_asked)
 
-pub ruleset element-asked = (A.element-asked)
+pub ruleset element_asked = (A.element_asked)
 
-pub ruleset child-asked = (A.child-asked)
+pub ruleset child_asked = (A.child_asked)
 
-pub ruleset node-asked = (A.wrapped-asked)
+pub ruleset node_asked = (A.wrapped_asked)
 
-pub ruleset loop-asked = (S.loop-asked, C.more_loops, C.tails_loops, C.joins_loops, C.attrs_loops)
+pub ruleset loop_asked = (S.loop_asked, C.more_loops, C.tails_loops, C.joins_loops, C.attrs_loops)
 
-pub ruleset children-asked = (S.loop-asked, H.kids-asked)
+pub ruleset children_asked = (S.loop_asked, H.kids_asked)
 
-pub ruleset in-tag-asked = (A.asked, T.tag_room)
+pub ruleset in_tag_asked = (A.asked, T.tag_room)
 
-pub ruleset content-asked = (A.content-asked)
+pub ruleset content_asked = (A.content_asked)
 
-pub ruleset named-asked = (A.named-asked)
+pub ruleset named_asked = (A.named_asked)
 
-pub ruleset fragment-asked = (A.fragment-asked)
+pub ruleset fragment_asked = (A.fragment_asked)

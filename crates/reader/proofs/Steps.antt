@@ -29,7 +29,7 @@ use Rattle.table.proofs.Made.{made_as, made_no, made_lent, made_done, refused}
 use Rattle.table.proofs.Upto.{Upto, upto_begin, upto_as, upto_count, upto_bare, upto_no, leaf_stops, read_goes}
 use Rattle.table.proofs.Upto.{made_goes, last_made, last_made_stops, loop_on, loop_out, loop_stops, upto_made}
 use Rattle.table.proofs.Upto.{node_made, node_no, same_seat, turn_read}
-use Rattle.table.proofs.Asked.{reader-asked}
+use Rattle.table.proofs.Asked.{reader_asked}
 use Rattle.tag.specs.Token.{goes_on}
 use Rattle.token.proofs.Told.{told_goes, told_stop}
 
@@ -157,7 +157,7 @@ both_fit room l h l₂ h₂ e f =
     let short = room.short in
     omega arith
 
-pub ruleset cycle-asked = (reader-asked, made_room, made_slot, made_row, made_leaf_room, both_fit)
+pub ruleset cycle_asked = (reader_asked, made_room, made_slot, made_row, made_leaf_room, both_fit)
 
 -- ---- two readers, one behind the other
 
@@ -377,10 +377,10 @@ module _ {s : List ℕ} {G L R : Rule} (is : Loops s G L R) {c at : ℕ} {q : Se
                   (sym is.is) next;
             })
 
-pub ruleset loop-steps = (loop_begins, loop_refuses, loop_ends, loop_refuses_inside, loop_again)
+pub ruleset loop_steps = (loop_begins, loop_refuses, loop_ends, loop_refuses_inside, loop_again)
 
-pub ruleset loop-asked = (
-  reader-asked,
+pub ruleset loop_asked = (
+  reader_asked,
   loop_inside,
   loop_slot,
   loop_row,
@@ -487,6 +487,6 @@ node_fits room l h f =
     let short = room.short in
     omega arith
 
-pub ruleset node-steps = (node_refuses, node_is)
+pub ruleset node_steps = (node_refuses, node_is)
 
-pub ruleset node-asked = (reader-asked, node_words, node_fits)
+pub ruleset node_asked = (reader_asked, node_words, node_fits)

@@ -192,7 +192,7 @@ module _ (d : ℕ) {s : List ℕ} {a : ℕ} {q : Seat} {r : Ans} {t t₁ : List 
                 Lex.known (read_at s (in_tag (within d)) a) (v ∙ ap (got true o) x)
             goes_as false n v {g₁ = g₁} y i = let x : j ≡ g₁ = cc in absurd (i (omega arith))
 
-pub ruleset in-tag-steps = (tag_refuses, tag_refuses_inside, tag_refuses_behind, tag_is)
+pub ruleset in_tag_steps = (tag_refuses, tag_refuses_inside, tag_refuses_behind, tag_is)
 
 -- ---- a content
 
@@ -251,7 +251,7 @@ module _ {s : List ℕ} {n : Inner} {o : Opened} {p v : ℕ} {q : Seat} (t : Lis
           subst (λ (x : ℕ). Shut r₂ (closing_named s o x) s Kind.element 1 o.at x (v + k₂) q t₁ t') y₁
           (subst (λ (x : ℕ). Shut r₂ (closing_named s o c) s Kind.element 1 o.at c x q t₁ t') y₃ sh)
 
-pub ruleset content-steps = (content_refuses, content_is)
+pub ruleset content_steps = (content_refuses, content_is)
 
 -- ---- an element
 
@@ -416,7 +416,7 @@ module _ (d : ℕ) {s : List ℕ} {at a : ℕ} (pa : Past a s pass at 1) (q : Se
               (ap (λ (y : ℕ). seat_behind y (seat_inside q)) ev) (ap (λ (y : ℕ). row_words * (y + 1)) ev) x sh
               (ap (λ (y : ℕ). y + j) ev)
 
-pub ruleset named-steps = (named_refuses, named_single, named_is)
+pub ruleset named_steps = (named_refuses, named_single, named_is)
 
 -- ---- a fragment
 
@@ -492,4 +492,4 @@ module _ (d : ℕ) {s : List ℕ} {at a : ℕ} (pa : Past a s pass at 1) (y : by
         (λ (x : ℕ). Shut r₂ (closing s at (x - at) no_name c) s Kind.fragment 0 at c v q t₂ t₃) ee sh in
         paired_shut fragment_opens (fragment_lent w) (R.goes_children d) refl refl h at_end m
 
-pub ruleset fragment-steps = (fragment_refuses, fragment_is)
+pub ruleset fragment_steps = (fragment_refuses, fragment_is)

@@ -80,7 +80,7 @@ module _
             → read_at s primary_word at ≡ got true (o ⋈ nil) p
         go w h = rw (any_mark s (suc (length s)) word 0 at at w, direct_got s (suc (length s)) word 0 at refl w, h)
 
-pub ruleset refused-steps = (
+pub ruleset refused_steps = (
   refused_other,
   listed,
   list_begins,

@@ -55,7 +55,7 @@ text_made {s} {at} v w f =
     let x = wrap_read s (suc (length s)) (λ o. node Kind.text 0) inside 0 at v.is in
     rw f (leaf_made (λ o. node Kind.text 0) 0 bare_inside x.1 refl far.1 (omega arith) w)
 
-pub ruleset text-steps = (rules, text_made)
+pub ruleset text_steps = (rules, text_made)
 
 -- ---- empty braces
 
@@ -171,6 +171,6 @@ inside_shallow room g e =
     let deep = room.shallow in
     rw (e, g) (omega arith)
 
-pub ruleset empty-steps = (rules, empty_made)
+pub ruleset empty_steps = (rules, empty_made)
 
-pub ruleset empty-asked = (rules, inside_fits, inside_held, inside_shallow)
+pub ruleset empty_asked = (rules, inside_fits, inside_held, inside_shallow)

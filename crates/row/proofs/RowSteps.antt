@@ -30,4 +30,4 @@ pub opening_stored : (j : Seat) {j₁ : Seat} {k kind at z extra m : ℕ} {t t' 
     → Stored k (seat_inside j) kind at z extra m t t'
 opening_stored j g w = rw g at w
 
-pub ruleset opening-steps = (rules, opening_enter, opening_words, opening_stored)
+pub ruleset opening_steps = (rules, opening_enter, opening_words, opening_stored)

@@ -77,7 +77,7 @@ module _ {s : List ℕ} {c : ℕ} (v : ℕ) (j : Seat) (t : List ℕ) {k i : ℕ
             ((λ o. Got (ey o) (en o)), rw e at w) z' m' (sym h ∙ h');
       }
 
-pub ruleset shut-steps = (rules, shut_stops, shut_made)
+pub ruleset shut_steps = (rules, shut_stops, shut_made)
 
 -- ---- what the calls ask
 
@@ -133,4 +133,4 @@ module _ {s : List ℕ} {c : ℕ} (v : ℕ) (j : Seat) (room : Room 3 s c (seat_
           let far = l.far _ _ h in
           rw (g, e, f, o) (omega arith)
 
-pub ruleset shut-asked = (rules, opening_copy, shut_enter, behind_fits, shut_room, shut_fits, shut_words)
+pub ruleset shut_asked = (rules, opening_copy, shut_enter, behind_fits, shut_room, shut_fits, shut_words)

@@ -31,6 +31,6 @@ pub blanks_past : {s : List ℕ} {at p j y : ℕ} {r : Ans} → Leaf nothing r s
     → Past y s blanks at 0
 blanks_past l e f = rw f (record { is = Lex.leaf_got goes_blanks l e; far = l.far _ _ e })
 
-pub ruleset end-steps = (rules, blanks_again, blanks_past)
+pub ruleset end_steps = (rules, blanks_again, blanks_past)
 
-pub ruleset end-asked = (rules, part_opened)
+pub ruleset end_asked = (rules, part_opened)

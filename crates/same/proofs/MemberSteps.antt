@@ -79,6 +79,6 @@ module _ {s : List ℕ} {x b : ℕ} (h : ReadTo s behind_dot x b) {u : List ℕ}
     pub part_blanks : {e : ℕ} → Past e s namePart i 1 → u ≡ s → y ≡ e → ReadsAt u blanks y
     part_blanks l f g = rw (f, g) (Member.part_blanks h k l)
 
-pub ruleset member-steps = (rules, left_begin, turn_differs, turn_first_over, turn_second_over, turn_goes_on)
+pub ruleset member_steps = (rules, left_begin, turn_differs, turn_first_over, turn_second_over, turn_goes_on)
 
-pub ruleset member-asked = (rules, dot_blanks, dot_part, part_blanks)
+pub ruleset member_asked = (rules, dot_blanks, dot_part, part_blanks)

@@ -124,8 +124,8 @@ module _ {s : List ℕ} {a b c d : ℕ} (n : Named s a b) (n₂ : Named s c d)
       let m₂ = dot_there n₂ l₂ o₂ k₂ (λ t. i (w ∙ v₂ ∙ t)) in
       h ∙ sym (Equal.rests m m₂ (sym g ∙ not-false r z))
 
-pub ruleset name-steps =
+pub ruleset name_steps =
     (rules, same_spans, first_differs, first_one, second_one, separators_differ, both_colon, both_dot)
 
-pub ruleset name-asked =
+pub ruleset name_asked =
     (rules, name_ordered, name_begins, name_blanks, colon_behind, dot_behind, colon_behind_too, dot_behind_too)

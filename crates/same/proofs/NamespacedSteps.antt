@@ -58,6 +58,6 @@ pub second_parts : {s : List ℕ} {p b q d i j : ℕ} {r : Bool} → ReadTo s be
 second_parts {s} {b = b} {d = d} {i} {j} g h k l z =
     z ∙ sym ((λ n. all_same (parts g k n) (parts h l n)) ∙ all_one (bytes_to s i b) (bytes_to s j d))
 
-pub ruleset namespaced-steps = (rules, second_parts)
+pub ruleset namespaced_steps = (rules, second_parts)
 
-pub ruleset namespaced-asked = (rules, colon_blanks, colon_ordered)
+pub ruleset namespaced_asked = (rules, colon_blanks, colon_ordered)

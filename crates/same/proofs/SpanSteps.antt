@@ -20,4 +20,4 @@ module _ (s : List ℕ) (a b c e : ℕ) where
       → r ≡ same (bytes_from s a (b - a)) (bytes_from s c (e - c))
   spans_same h g = g ∙ ap (λ (n : ℕ). same (bytes_from s a (b - a)) (bytes_from s c n)) h
 
-pub ruleset span-steps = (rules, spans_differ, spans_same)
+pub ruleset span_steps = (rules, spans_differ, spans_same)

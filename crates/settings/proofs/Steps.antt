@@ -50,7 +50,7 @@ pub held_refused : {r : Settled} {n a b : ℕ} {k : Limits} → r ≡ Refused n 
 unfolding held
 held_refused e f = f ∙ sym (rw e)
 
-pub ruleset limit-steps = (
+pub ruleset limit_steps = (
   rules,
   standard_made,
   least_first,
@@ -102,7 +102,7 @@ pub length_here : (s : List ℕ) (at : ℕ) {a b c d : ℕ} → a ≡ byte_at s 
     → a + 256 * b + 65_536 * c + 16_777_216 * d ≡ length_in (drop at s)
 length_here s at e f g h = rw (inside s at 4, inside s at 5, inside s at 6, inside s at 7, e, f, g, h)
 
-pub ruleset byte-steps = (
+pub ruleset byte_steps = (
   rules,
   other_same,
   other_stands,
@@ -190,7 +190,7 @@ module _ (s : List ℕ) (at : ℕ) (l : Limits) {a : Bool} (y : a ≡ marks_othe
               sym (judged_whole at (limits_of l) (drop at s) whole
               ∙ rw (kind, ne_eqb c 1 i, ne_eqb c 2 j, le-ltb c 128 q))
 
-pub ruleset record-steps = (
+pub ruleset record_steps = (
   rules,
   depth_size,
   depth_none,
@@ -253,4 +253,4 @@ module _ (s : List ℕ) {l : Limits} {at : ℕ} (v : Read s l at) where
             ∙ ap (λ (p : ℕ). settled_from p 0 (limits_of k) (drop p s)) (omega arith);
       }
 
-pub ruleset store-steps = (rules, read_begin, read_end, read_stops, read_on, read_again)
+pub ruleset store_steps = (rules, read_begin, read_end, read_stops, read_on, read_again)

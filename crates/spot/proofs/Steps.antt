@@ -71,7 +71,7 @@ module _ (s : List ℕ) (i : ℕ) {b : ℕ} (is : b ≡ byte_at s i) where
       let h = ne_eqb (byte_at s (i + 1)) (code "\n") (λ k. nc (ic ∙ ap (byte_at s) ej ∙ k)) in
       rw (f, g, h)
 
-pub ruleset byte-steps = (rules, begins_low, goes_on, begins_high, line_feed, no_end, return_feed, return_alone)
+pub ruleset byte_steps = (rules, begins_low, goes_on, begins_high, line_feed, no_end, return_feed, return_alone)
 
 -- ---- spots
 
@@ -159,7 +159,7 @@ first_spot s = refl
 pub last_spot : (s : List ℕ) {x : Place} {i p : ℕ} → x ≡ spot_at s i → i ≤ p → p ≤ i → x ≡ spot_at s p
 last_spot s {i = i} {p} e h l = let f : i ≡ p = omega arith in e ∙ ap (spot_at s) f
 
-pub ruleset spot-steps = (rules, line_fits, column_fits, step_line, step_same, step_column, first_spot, last_spot, line_before)
+pub ruleset spot_steps = (rules, line_fits, column_fits, step_line, step_same, step_column, first_spot, last_spot, line_before)
 
 -- ---- the end of a line
 
@@ -213,4 +213,4 @@ module _ (s : List ℕ) where
     stops = λ n m. sym is ∙ e;
   }
 
-pub ruleset end-steps = (rules, clear_none, clear_more, clear_end, clear_feed, clear_return)
+pub ruleset end_steps = (rules, clear_none, clear_more, clear_end, clear_feed, clear_return)

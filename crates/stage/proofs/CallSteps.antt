@@ -227,8 +227,8 @@ module _ {reading : ℕ → Rule} {k : Given.Limits} (c : limits_of k ≡ standa
   pub standard_reads : {t t' : List ℕ} → Reads (capped (limits_of k)) reading s t r t' → Reads standard reading s t r t'
   standard_reads v = rw (capped_standard k c) at v
 
-pub ruleset check-steps = (rules, stage_numbers, run_numbers, check_stops, check_made, standard_checks)
+pub ruleset check_steps = (rules, stage_numbers, run_numbers, check_stops, check_made, standard_checks)
 
-pub ruleset read-steps = (rules, stage_numbers, run_numbers, read_stops, read_small, read_made, standard_reads)
+pub ruleset read_steps = (rules, stage_numbers, run_numbers, read_stops, read_small, read_made, standard_reads)
 
-pub ruleset call-asked = (rules, stage_numbers, run_numbers, sound_short, checked_short)
+pub ruleset call_asked = (rules, stage_numbers, run_numbers, sound_short, checked_short)

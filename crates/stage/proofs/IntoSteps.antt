@@ -32,7 +32,7 @@ use Rattle.table.proofs.Made.{refused}
 use Rattle.table.proofs.Upto.{Upto, upto_begin, upto_as, upto_count}
 use Rattle.table.proofs.Upto.{upto_no, upto_when, upto_else, leaf_goes, leaf_stops}
 use Rattle.table.proofs.Upto.{made_goes, made_stops, upto_made, same_seat}
-use Rattle.table.proofs.Asked.{reader-asked}
+use Rattle.table.proofs.Asked.{reader_asked}
 use Rattle.tag.proofs.Rules.{goes_sibling}
 use Rattle.stage.specs.Call.{whole}
 
@@ -145,7 +145,7 @@ module _ (d : ℕ) {s : List ℕ} {t : List ℕ} (i : length s ≤ 1_048_576) {r
               → Made (No 13 q₁ q₂ 0 0) s (stage d) 0 0 whole 0 t t₂
           stage_more x₃ e₁ e₂ = rw (e₁, e₂) (ends_not last y₃ x₃)
 
-pub ruleset stage-steps = (
+pub ruleset stage_steps = (
   rules,
   stage_blanks_stop,
   stage_unopened,
@@ -183,7 +183,7 @@ module _ (d : ℕ) {s : List ℕ} {t t₂ : List ℕ} (i : length s ≤ 1_048_57
     pub run_more : (b ≡ 256 → ⊥) → {p₁ p₂ : ℕ} → p₁ ≡ p → p₂ ≡ p → Made (No 3 p₁ p₂ 0 0) s (run d) 0 0 whole 0 t t₂
     run_more x e₁ e₂ = rw (e₁, e₂) (ends_not run_last y x)
 
-pub ruleset run-steps = (rules, run_stops, run_ends, run_more)
+pub ruleset run_steps = (rules, run_stops, run_ends, run_more)
 
 -- ---- what the calls ask
 
@@ -226,4 +226,4 @@ pub open_inside : (s : List ℕ) (p : ℕ) {b : ℕ} (u : List ℕ) {y : ℕ}
     → y < length u
 open_inside s p u e h f g = rw (f, g) (Lex.before_end s p (code "<") (sym e ∙ h) (lit< tt))
 
-pub ruleset into-asked = (reader-asked, whole_room, blanks_room, open_inside)
+pub ruleset into_asked = (reader_asked, whole_room, blanks_room, open_inside)

@@ -32,7 +32,7 @@ pub reply_no : {r : Ans} {n a b c d n₁ a₁ b₁ c₁ d₁ : ℕ} → r ≡ No
     → Refused n₁ a₁ b₁ c₁ d₁ ≡ reply_of r
 reply_no h en ea eb ec ed = rw (en, ea, eb, ec, ed, h)
 
-pub ruleset reply-steps = (rules, reply_got, reply_no)
+pub ruleset reply_steps = (rules, reply_got, reply_no)
 
 -- ---- the two tests
 
@@ -55,4 +55,4 @@ sound_utf8 l s {r} h v = record {
       ∙ ap (λ (x : Answer). and_then x (λ a o p. parse_all (reading l.depth) s)) (Lex.leaf_no v e);
 }
 
-pub ruleset sound-steps = (rules, sound_long, sound_utf8)
+pub ruleset sound_steps = (rules, sound_long, sound_utf8)

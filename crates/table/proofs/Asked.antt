@@ -141,7 +141,7 @@ module _ {c : ℕ} {s : List ℕ} {at : ℕ} {q : Seat} (room : Room c s at q) w
       let short = room.short in
       omega arith
 
-pub ruleset reader-asked = (
+pub ruleset reader_asked = (
   rules,
   leaf_inside,
   leaf_past,

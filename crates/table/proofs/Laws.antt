@@ -198,7 +198,7 @@ pub row_out : (t : List ℕ) {q : Seat} {kind a z x : ℕ} (m : ℕ)
     → Stored 0 q kind a z x m t t
 row_out t {q} {kind} {a} {z} {x} m w h = stored_none t 0 q kind a z x m h w.4
 
-pub ruleset writer-steps = (rules, word_stored, word_out, three_stored, row_out)
+pub ruleset writer_steps = (rules, word_stored, word_out, three_stored, row_out)
 
 -- ---- one word
 
@@ -206,4 +206,4 @@ pub ruleset writer-steps = (rules, word_stored, word_out, three_stored, row_out)
 pub no_word : (t : List ℕ) (k : ℕ) → length t ≤ k → 0 ≡ get_or t k 0
 no_word t k h = sym (get_or-eq_default t 0 h)
 
-pub ruleset word-steps = (rules, no_word)
+pub ruleset word_steps = (rules, no_word)

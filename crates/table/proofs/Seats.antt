@@ -124,6 +124,6 @@ module _ (q : Slot) {k a z x : ℕ} (m : ℕ) (w : Words (seat q) k a z x m) whe
           small = w.4;
         }
 
-pub ruleset row-steps = (rules, parent_word, after_word, depth_word, row_stored)
+pub ruleset row_steps = (rules, parent_word, after_word, depth_word, row_stored)
 
-pub ruleset seat-steps = (rules, low_half, high_half, inside_word, behind_word, seat_inside_lem, seat_behind_lem)
+pub ruleset seat_steps = (rules, low_half, high_half, inside_word, behind_word, seat_inside_lem, seat_behind_lem)

@@ -18,7 +18,7 @@ use Rattle.table.specs.Contract.{Words, Stored}
 use Rattle.table.specs.Reader.{Room, Made}
 use Rattle.table.proofs.Made.{refused}
 use Rattle.table.proofs.Upto.{leaf_made}
-use Rattle.table.proofs.Asked.{reader-asked}
+use Rattle.table.proofs.Asked.{reader_asked}
 use Rattle.tag.proofs.Rules.{in_quotes, goes_quoted, bare_quoted}
 
 module _ {s : List ℕ} {at : ℕ} {r : Ans} (l : Leaf nothing r s quoted at 2) {q : Seat} {t : List ℕ} where
@@ -54,6 +54,6 @@ quoted_words room i l h f g k =
     let far = l.far _ _ h in
     rw (f, g, k) (omega arith)
 
-pub ruleset quoted-steps = (rules, quoted_stops, quoted_made)
+pub ruleset quoted_steps = (rules, quoted_stops, quoted_made)
 
-pub ruleset quoted-asked = (reader-asked, quoted_words)
+pub ruleset quoted_asked = (reader_asked, quoted_words)

@@ -29,7 +29,7 @@ use Rattle.lex.specs.declared.Ans.{Ans}
 use Rattle.lex.specs.declared.Ans.TheVariants.{Got, No}
 use Rattle.lex.proofs.Laws as Lex
 use Rattle.lex.proofs.Bare.{goes_blanks}
-use Rattle.table.proofs.Asked.{reader-asked}
+use Rattle.table.proofs.Asked.{reader_asked}
 use Rattle.tag.specs.Token.{open_by, close_by, goes_on}
 use Rattle.tag.proofs.Rules.{goes_expect, goes_close, goes_sibling}
 
@@ -80,7 +80,7 @@ module _ {s : List ℕ} {at : ℕ} (c : ℕ) {r : Ans} where
   unfolding close_by
   close_is l h l₂ = two_are l 1 goes_blanks h l₂ (omega arith)
 
-pub ruleset token-steps = (rules, open_stops, open_is, close_stops, close_is)
+pub ruleset token_steps = (rules, open_stops, open_is, close_stops, close_is)
 
 -- ---- a tag's end
 
@@ -182,9 +182,9 @@ slash_inside s at u y h e f =
     let i = Lex.before_end s at (code "/") (sym y ∙ h) (lit< tt) in
     rw (e, f) (omega arith)
 
-pub ruleset end-steps = (rules, end_here, end_missing, end_stops, end_slash)
+pub ruleset end_steps = (rules, end_here, end_missing, end_stops, end_slash)
 
-pub ruleset end-asked = (rules, slash_inside)
+pub ruleset end_asked = (rules, slash_inside)
 
 -- ---- behind an element that is no child
 
@@ -280,7 +280,7 @@ sibling_stays {r} {s} n {at} l {p} h =
     by (trouble m a b c d) e g =
         trouble_got (sym (after_no s (suc (length s)) blanks 0 at e (is "<") _ _) ∙ g)
 
-pub ruleset sibling-steps = (rules, sibling_stops, sibling_none, sibling_less, sibling_equals, sibling_adjacent)
+pub ruleset sibling_steps = (rules, sibling_stops, sibling_none, sibling_less, sibling_equals, sibling_adjacent)
 
 -- ---- what the calls ask
 
@@ -293,4 +293,4 @@ pub leaf_next : {w : Bool → Forest → ℕ} {r : Ans} {s : List ℕ} {g : Rule
     → Fits w64 (y + 1)
 leaf_next l h i e = let far = l.far _ _ h in omega arith
 
-pub ruleset token_asked = (reader-asked, leaf_next)
+pub ruleset token_asked = (reader_asked, leaf_next)

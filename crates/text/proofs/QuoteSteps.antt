@@ -245,7 +245,7 @@ module _ {s : List ℕ} {at q p : ℕ} (v : Quoted string_never_closed in_string
             rw (g, f)
             record { opens = v.opens; first = v.first; turns = turns_more v.turns e (omega arith) (omega arith) }
 
-pub ruleset quote-steps = (
+pub ruleset quote_steps = (
   quote_begins,
   quoted_open,
   quoted_ends,

@@ -66,4 +66,4 @@ module _ {b : ℕ} where
   unfolding in_text any
   text_is h = ap (λ (x : Bool). pick x false true) (sym (any_no stops b h))
 
-pub ruleset test-steps = (is_first, is_second, quote_is, quote_not, text_not, text_is)
+pub ruleset test_steps = (is_first, is_second, quote_is, quote_not, text_not, text_is)

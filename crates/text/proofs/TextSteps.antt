@@ -77,4 +77,4 @@ module _ (s : List ℕ) (at : ℕ) (o : in_text (byte_at s at) ≡ true) where
           → read_at s text at ≡ got true (group (node Kind.text 0) (byte (byte_at s at) nil ⋈ u) nil) p
       text_is h e = rw (lt-ltb at (length s) h, e)
 
-pub ruleset text-steps = (text_ends)
+pub ruleset text_steps = (text_ends)

@@ -64,4 +64,4 @@ module _ {s : List ℕ} {at a b : ℕ} (v : Past a s pass at 1) (y : b ≡ byte_
         Lex.leaf_behind nothing element_too_deep at 1 (out_of (read_at s pass at)) (λ a o. refl) l
         (behind_pass ∙ ap (behind (out_of (read_at s pass at))) (named ∙ e)) (omega arith)
 
-pub ruleset deep-steps = (rules, deep_fragment, deep_named, deep_neither)
+pub ruleset deep_steps = (rules, deep_fragment, deep_named, deep_neither)

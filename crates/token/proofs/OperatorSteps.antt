@@ -65,7 +65,7 @@ module _ (s : List ℕ) (at : ℕ) {b : ℕ} (y : byte_at s at ≡ b) (i : b < 2
 
 pub ruleset once_steps = (rules, once_twice, once_is)
 
-pub ruleset once-asked = (rules, once_inside, once_fits)
+pub ruleset once_asked = (rules, once_inside, once_fits)
 
 -- ---- a byte that stands twice
 
@@ -91,7 +91,7 @@ module _ {s : List ℕ} {at b : ℕ} (i : b < 256) {f : Bool} (o : f ≡ opens s
       ∙ ap (got true (byte (byte_at s at) nil ⋈ byte (byte_at s (at + 1)) nil)) e)
       refl (omega arith)
 
-pub ruleset twice-steps = (rules, twice_not, twice_is)
+pub ruleset twice_steps = (rules, twice_not, twice_is)
 
 -- ---- the operator here
 
@@ -193,9 +193,9 @@ pub double_small : {b c : ℕ} → OneOf doubles b → c ≡ b → c < 256
 double_small (inl h) e = omega arith
 double_small (inr h) e = omega arith
 
-pub ruleset here-steps = (rules, here_star, here_sum, here_double, here_none)
+pub ruleset here_steps = (rules, here_star, here_sum, here_double, here_none)
 
-pub ruleset here-asked = (rules, sum_small, double_small)
+pub ruleset here_asked = (rules, sum_small, double_small)
 
 -- ---- an operator with the blanks around it
 
@@ -317,7 +317,7 @@ module _ {s : List ℕ} {at : ℕ} {r : Ans} (l : Leaf nothing r s blanks at 0) 
             (Lex.leaf_got goes_blanks l₃ h₃))
             refl (omega arith))
 
-pub ruleset operator-steps =
+pub ruleset operator_steps =
     (rules, operator_stops, operator_refused, operator_none, operator_then_stops, operator_is)
 
-pub ruleset operator-asked = (rules, leaf_inside)
+pub ruleset operator_asked = (rules, leaf_inside)

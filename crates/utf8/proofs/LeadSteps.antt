@@ -121,7 +121,7 @@ module _ {b : ℕ} where
         over 0xF4 0xF4 b (omega arith),
       ))
 
-pub ruleset lead-steps = (
+pub ruleset lead_steps = (
   lead_e0,
   lead_ed,
   lead_f0,

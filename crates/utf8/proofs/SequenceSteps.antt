@@ -187,4 +187,4 @@ module _ (s : List ℕ) (p : ℕ) {b : ℕ} (i : p < length s) (y : byte_at s p 
                     next p 3,
                   ))
 
-pub ruleset sequence-steps = (lead_bad, lead_ascii, no_second, two, no_third, three, no_fourth, four)
+pub ruleset sequence_steps = (lead_bad, lead_ascii, no_second, two, no_third, three, no_fourth, four)

@@ -100,4 +100,4 @@ module _ (s : List ℕ) (p : ℕ) {b : ℕ} (y : b ≡ byte_at s (p + 1)) (k : b
 pub byte_here : (s : List ℕ) (p : ℕ) → p < length s → byte_at s p ≡ get_or s p 0
 byte_here s p i = sym (inside s p 0 256 i)
 
-pub ruleset utf8-steps = (utf8_begins, utf8_ends, ascii_passes, ascii_goes_on, utf8_stops, utf8_goes_on)
+pub ruleset utf8_steps = (utf8_begins, utf8_ends, ascii_passes, ascii_goes_on, utf8_stops, utf8_goes_on)

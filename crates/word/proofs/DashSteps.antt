@@ -37,4 +37,4 @@ pub dash_none : {s : List ℕ} {a b p : ℕ} → NoDash s a b p → b ≤ p → 
 unfolding dashed has bytes_from
 dash_none {b = b} {p} v h = let e : b - p ≡ 0 = omega arith in sym (v.so ∙ rw e)
 
-pub ruleset dash-steps = (dash_begins, dash_found, dash_goes_on, dash_none)
+pub ruleset dash_steps = (dash_begins, dash_found, dash_goes_on, dash_none)

@@ -367,7 +367,7 @@ module _ (s : List ℕ) (p : ℕ) {n : ℕ} (k : n ≡ 0 → ⊥) where
     pub common_nearer : length s - (p + n) < length s - p
     common_nearer = let h = common_here_part s p e k in let i = h.inside in let w = h.some in omega arith
 
-pub ruleset part-steps = (
+pub ruleset part_steps = (
   rules,
   opens_by_byte,
   in_by_byte,

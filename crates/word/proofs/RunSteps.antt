@@ -84,7 +84,7 @@ module _ (s : List ℕ) (at : ℕ) {b : ℕ} (y : b ≡ byte_at s at) {t : Bool}
   pub opens_asked : t ≡ opens_name b → t ≡ true → opens_name (byte_at s at) ≡ true
   opens_asked i x = tested opens_name y i x
 
-pub ruleset run-steps = (
+pub ruleset run_steps = (
   opens_end,
   word_end,
   opens_inside,

@@ -1,18 +1,18 @@
 use Rattle.abi.proofs.lorikvar_check_stage_within.Statement.{statement}
 use Rattle.abi.proofs.lorikvar_check_stage_within.Tie as tie
-use Rattle.abi.proofs.Steps.{limit-steps}
+use Rattle.abi.proofs.Steps.{limit_steps}
 
 given-requires : tie.Need-given-requires
-given-requires c κs = search limit-steps
+given-requires c κs = search limit_steps
 
 check-stage-within-requires : tie.Need-check-stage-within-requires
-check-stage-within-requires c κs = search limit-steps
+check-stage-within-requires c κs = search limit_steps
 
 say-requires : tie.Need-say-requires
-say-requires c κs = search limit-steps
+say-requires c κs = search limit_steps
 
 returns : tie.Need-returns
-returns c = search limit-steps
+returns c = search limit_steps
 
 pub lorikvar-check-stage-within-spec : {M : Type 1} → statement M
 lorikvar-check-stage-within-spec =

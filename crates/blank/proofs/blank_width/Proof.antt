@@ -1,6 +1,6 @@
 use Rattle.blank.proofs.blank_width.Statement.{statement}
 use Rattle.blank.proofs.blank_width.Tie as tie
-use Rattle.blank.proofs.TestSteps.{test-steps}
+use Rattle.blank.proofs.TestSteps.{test_steps}
 use Rattle.blank.proofs.Asked.{asked}
 
 code-at-requires : tie.Need-code-at-requires
@@ -16,10 +16,10 @@ width-requires : tie.Need-width-requires
 width-requires c κs = search asked
 
 returns : tie.Need-returns
-returns c = search test-steps
+returns c = search test_steps
 
 returns_2 : tie.Need-returns-2
-returns_2 c = search test-steps
+returns_2 c = search test_steps
 
 pub blank-width-spec : {M : Type 1} → statement M
 blank-width-spec =

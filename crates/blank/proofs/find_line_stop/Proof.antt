@@ -4,7 +4,7 @@ use Rattle.lanes.specs.First.{Clear}
 use Rattle.blank.specs.Here.{line_stop}
 use Rattle.blank.proofs.find_line_stop.Statement.{statement}
 use Rattle.blank.proofs.find_line_stop.Tie as tie
-use Rattle.blank.proofs.CommentSteps.{comment-steps}
+use Rattle.blank.proofs.CommentSteps.{comment_steps}
 use Rattle.blank.proofs.Asked.{asked}
 
 abbrev invariant-loop : tie.invariant-loop
@@ -14,7 +14,7 @@ abbrev decreases-loop : tie.decreases-loop
 decreases-loop s at p₀ p = length s - p
 
 loop_holds : tie.Need-loop-init invariant-loop decreases-loop
-loop_holds c = search comment-steps
+loop_holds c = search comment_steps
 
 add-loop : tie.Need-overflow-add-loop invariant-loop decreases-loop
 add-loop c = search asked
@@ -32,7 +32,7 @@ add-result : tie.Need-overflow-add-result invariant-loop decreases-loop
 add-result c = search asked
 
 returns : tie.Need-returns invariant-loop decreases-loop
-returns c = search comment-steps
+returns c = search comment_steps
 
 add-p : tie.Need-overflow-add-p invariant-loop decreases-loop
 add-p c = search asked
@@ -41,13 +41,13 @@ loop_less : tie.Need-loop-smaller invariant-loop decreases-loop
 loop_less c = search asked
 
 loop_again : tie.Need-loop-preserved invariant-loop decreases-loop
-loop_again c = search comment-steps
+loop_again c = search comment_steps
 
 find-line-stop-rest-requires : tie.Need-find-line-stop-rest-requires invariant-loop decreases-loop
 find-line-stop-rest-requires c κs = search asked
 
 returns_2 : tie.Need-returns-2 invariant-loop decreases-loop
-returns_2 c = search comment-steps
+returns_2 c = search comment_steps
 
 pub find-line-stop-spec : {M : Type 1} → statement M
 find-line-stop-spec =

@@ -4,7 +4,7 @@ use Rattle.lanes.specs.First.{Clear}
 use Rattle.blank.specs.Here.{line_stop}
 use Rattle.blank.proofs.find_line_stop_rest.Statement.{statement}
 use Rattle.blank.proofs.find_line_stop_rest.Tie as tie
-use Rattle.blank.proofs.CommentSteps.{comment-steps}
+use Rattle.blank.proofs.CommentSteps.{comment_steps}
 use Rattle.blank.proofs.Asked.{asked}
 
 abbrev invariant-loop : tie.invariant-loop
@@ -14,7 +14,7 @@ abbrev decreases-loop : tie.decreases-loop
 decreases-loop s at p₀ p = length s - p
 
 loop_holds : tie.Need-loop-init invariant-loop decreases-loop
-loop_holds c = search comment-steps
+loop_holds c = search comment_steps
 
 byte_requires : tie.Need-byte-requires invariant-loop decreases-loop
 byte_requires c κs = search asked
@@ -23,7 +23,7 @@ stops-line-requires : tie.Need-stops-line-requires invariant-loop decreases-loop
 stops-line-requires c κs = search asked
 
 returns : tie.Need-returns invariant-loop decreases-loop
-returns c = search comment-steps
+returns c = search comment_steps
 
 add-p : tie.Need-overflow-add-p invariant-loop decreases-loop
 add-p c = search asked
@@ -32,10 +32,10 @@ loop_less : tie.Need-loop-smaller invariant-loop decreases-loop
 loop_less c = search asked
 
 loop_again : tie.Need-loop-preserved invariant-loop decreases-loop
-loop_again c = search comment-steps
+loop_again c = search comment_steps
 
 returns_2 : tie.Need-returns-2 invariant-loop decreases-loop
-returns_2 c = search comment-steps
+returns_2 c = search comment_steps
 
 pub find-line-stop-rest-spec : {M : Type 1} → statement M
 find-line-stop-rest-spec =

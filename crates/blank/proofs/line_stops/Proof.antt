@@ -1,6 +1,6 @@
 use Rattle.blank.proofs.line_stops.Statement.{statement}
 use Rattle.blank.proofs.line_stops.Tie as tie
-use Rattle.blank.proofs.CommentSteps.{comment-steps}
+use Rattle.blank.proofs.CommentSteps.{comment_steps}
 use Rattle.blank.proofs.Asked.{asked}
 
 equal-requires : tie.Need-equal-requires
@@ -13,7 +13,7 @@ beyond-ascii-requires : tie.Need-beyond-ascii-requires
 beyond-ascii-requires c κs = search asked
 
 returns : tie.Need-returns
-returns c = search comment-steps
+returns c = search comment_steps
 
 pub line-stops-spec : {M : Type 1} → statement M
 line-stops-spec =

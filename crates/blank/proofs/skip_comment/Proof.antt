@@ -5,7 +5,7 @@ use Rattle.jsx.specs.Blank.{comment_turn}
 use Rattle.lex.proofs.Turns.{Turns}
 use Rattle.blank.proofs.skip_comment.Statement.{statement}
 use Rattle.blank.proofs.skip_comment.Tie as tie
-use Rattle.blank.proofs.CommentSteps.{comment-steps}
+use Rattle.blank.proofs.CommentSteps.{comment_steps}
 
 abbrev invariant-loop : tie.invariant-loop
 invariant-loop s at p₀ p = Turns s comment_turn at (at + 2) p
@@ -20,7 +20,7 @@ find-requires : tie.Need-find-requires invariant-loop decreases-loop
 find-requires c κs = search asked
 
 loop_holds : tie.Need-loop-init invariant-loop decreases-loop
-loop_holds c = search comment-steps
+loop_holds c = search comment_steps
 
 byte_requires : tie.Need-byte-requires invariant-loop decreases-loop
 byte_requires c κs = search asked
@@ -32,7 +32,7 @@ add-t8 : tie.Need-overflow-add-t8 invariant-loop decreases-loop
 add-t8 c = search asked
 
 returns : tie.Need-returns invariant-loop decreases-loop
-returns c = search comment-steps
+returns c = search comment_steps
 
 add-find-2 : tie.Need-overflow-add-find-2 invariant-loop decreases-loop
 add-find-2 c = search asked
@@ -44,10 +44,10 @@ loop_less : tie.Need-loop-smaller invariant-loop decreases-loop
 loop_less c = search asked
 
 loop_again : tie.Need-loop-preserved invariant-loop decreases-loop
-loop_again c = search comment-steps
+loop_again c = search comment_steps
 
 returns_2 : tie.Need-returns-2 invariant-loop decreases-loop
-returns_2 c = search comment-steps
+returns_2 c = search comment_steps
 
 pub skip-comment-spec : {M : Type 1} → statement M
 skip-comment-spec =

@@ -4,7 +4,7 @@ use Rattle.jsx.specs.Blank.{line_turn}
 use Rattle.lex.proofs.Turns.{Turns}
 use Rattle.blank.proofs.skip_line_comment.Statement.{statement}
 use Rattle.blank.proofs.skip_line_comment.Tie as tie
-use Rattle.blank.proofs.CommentSteps.{comment-steps}
+use Rattle.blank.proofs.CommentSteps.{comment_steps}
 use Rattle.blank.proofs.Asked.{asked}
 
 abbrev invariant-loop : tie.invariant-loop
@@ -17,7 +17,7 @@ add-p : tie.Need-overflow-add-p invariant-loop decreases-loop
 add-p c = search asked
 
 loop_holds : tie.Need-loop-init invariant-loop decreases-loop
-loop_holds c = search comment-steps
+loop_holds c = search comment_steps
 
 line-ends-requires : tie.Need-line-ends-requires invariant-loop decreases-loop
 line-ends-requires c κs = search asked
@@ -38,16 +38,16 @@ loop-less-2 : tie.Need-loop-smaller-2 invariant-loop decreases-loop
 loop-less-2 c = search asked
 
 loop-again-2 : tie.Need-loop-preserved-2 invariant-loop decreases-loop
-loop-again-2 c = search comment-steps
+loop-again-2 c = search comment_steps
 
 loop_less : tie.Need-loop-smaller invariant-loop decreases-loop
 loop_less c = search asked
 
 loop_again : tie.Need-loop-preserved invariant-loop decreases-loop
-loop_again c = search comment-steps
+loop_again c = search comment_steps
 
 returns : tie.Need-returns invariant-loop decreases-loop
-returns c = search comment-steps
+returns c = search comment_steps
 
 pub skip-line-comment-spec : {M : Type 1} → statement M
 skip-line-comment-spec =

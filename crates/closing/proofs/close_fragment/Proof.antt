@@ -1,4 +1,4 @@
-use Rattle.closing.proofs.CloseSteps.{fragment-steps, read_asked}
+use Rattle.closing.proofs.CloseSteps.{fragment_steps, read_asked}
 use Rattle.closing.proofs.close_fragment.Statement.{statement}
 use Rattle.closing.proofs.close_fragment.Tie as tie
 
@@ -12,7 +12,7 @@ enum_told : tie.Need-enum-told
 enum_told c = search read_asked
 
 returns : tie.Need-returns
-returns c = search fragment-steps
+returns c = search fragment_steps
 
 byte_requires : tie.Need-byte-requires
 byte_requires c κs = search read_asked
@@ -30,7 +30,7 @@ same_length : tie.Need-same-length
 same_length c = search read_asked
 
 returns_2 : tie.Need-returns-2
-returns_2 c = search fragment-steps
+returns_2 c = search fragment_steps
 
 close-by_name-requires : tie.Need-close-by_name-requires
 close-by_name-requires c κs = search read_asked
@@ -39,7 +39,7 @@ same_length_2 : tie.Need-same-length-2
 same_length_2 c = search read_asked
 
 returns_3 : tie.Need-returns-3
-returns_3 c = search fragment-steps
+returns_3 c = search fragment_steps
 
 pub close-fragment-spec : {M : Type 1} → statement M
 close-fragment-spec =

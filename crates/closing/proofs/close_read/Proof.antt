@@ -1,4 +1,4 @@
-use Rattle.closing.proofs.CloseSteps.{read_asked, read-steps}
+use Rattle.closing.proofs.CloseSteps.{read_asked, read_steps}
 use Rattle.closing.proofs.close_read.Statement.{statement}
 use Rattle.closing.proofs.close_read.Tie as tie
 
@@ -12,7 +12,7 @@ enum_told : tie.Need-enum-told
 enum_told c = search read_asked
 
 returns : tie.Need-returns
-returns c = search read-steps
+returns c = search read_steps
 
 byte_requires : tie.Need-byte-requires
 byte_requires c κs = search read_asked
@@ -21,7 +21,7 @@ add_t10 : tie.Need-overflow-add-t10
 add_t10 c = search read_asked
 
 returns_2 : tie.Need-returns-2
-returns_2 c = search read-steps
+returns_2 c = search read_steps
 
 close-named-requires : tie.Need-close-named-requires
 close-named-requires c κs = search read_asked
@@ -30,7 +30,7 @@ same_length : tie.Need-same-length
 same_length c = search read_asked
 
 returns_3 : tie.Need-returns-3
-returns_3 c = search read-steps
+returns_3 c = search read_steps
 
 pub close-read-spec : {M : Type 1} → statement M
 close-read-spec =

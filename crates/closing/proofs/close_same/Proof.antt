@@ -1,4 +1,4 @@
-use Rattle.closing.proofs.RepeatedSteps.{same_asked, same-steps}
+use Rattle.closing.proofs.RepeatedSteps.{same_asked, same_steps}
 use Rattle.closing.proofs.close_same.Statement.{statement}
 use Rattle.closing.proofs.close_same.Tie as tie
 
@@ -15,7 +15,7 @@ add_t11 : tie.Need-overflow-add-t11
 add_t11 c = search same_asked
 
 returns : tie.Need-returns
-returns c = search same-steps
+returns c = search same_steps
 
 start_requires : tie.Need-start-requires
 start_requires c κs = search same_asked
@@ -54,7 +54,7 @@ same_length : tie.Need-same-length
 same_length c = search same_asked
 
 returns_2 : tie.Need-returns-2
-returns_2 c = search same-steps
+returns_2 c = search same_steps
 
 pub close-same-spec : {M : Type 1} → statement M
 close-same-spec =

@@ -1,35 +1,35 @@
 use Rattle.identifier.specs.Script.{east_asian}
 use Rattle.identifier.proofs.is_east_asian.Statement.{statement}
 use Rattle.identifier.proofs.is_east_asian.Tie as tie
-use Rattle.lex.proofs.TestSteps.{test-steps}
+use Rattle.lex.proofs.TestSteps.{test_steps}
 
 within-requires : tie.Need-within-requires
-within-requires c κs = search test-steps
+within-requires c κs = search test_steps
 
 within-requires-2 : tie.Need-within-requires-2
-within-requires-2 c κs = search test-steps
+within-requires-2 c κs = search test_steps
 
 within-requires-3 : tie.Need-within-requires-3
-within-requires-3 c κs = search test-steps
+within-requires-3 c κs = search test_steps
 
 within-requires-4 : tie.Need-within-requires-4
-within-requires-4 c κs = search test-steps
+within-requires-4 c κs = search test_steps
 
 returns : tie.Need-returns
 unfolding east_asian
-returns c = search test-steps
+returns c = search test_steps
 
 returns_2 : tie.Need-returns-2
 unfolding east_asian
-returns_2 c = search test-steps
+returns_2 c = search test_steps
 
 returns_3 : tie.Need-returns-3
 unfolding east_asian
-returns_3 c = search test-steps
+returns_3 c = search test_steps
 
 returns_4 : tie.Need-returns-4
 unfolding east_asian
-returns_4 c = search test-steps
+returns_4 c = search test_steps
 
 pub is-east-asian-spec : {M : Type 1} → statement M
 is-east-asian-spec =

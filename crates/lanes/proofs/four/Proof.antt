@@ -1,6 +1,6 @@
 use Rattle.lanes.proofs.four.Statement.{statement}
 use Rattle.lanes.proofs.four.Tie as tie
-use Rattle.lanes.proofs.WordSteps.{word-steps}
+use Rattle.lanes.proofs.WordSteps.{word_steps}
 use Rattle.lanes.proofs.Asked.{asked}
 
 add-two : tie.Need-overflow-add-two
@@ -19,7 +19,7 @@ add-result : tie.Need-overflow-add-result
 add-result c = search asked
 
 returns : tie.Need-returns
-returns c = search word-steps
+returns c = search word_steps
 
 pub four-spec : {M : Type 1} → statement M
 four-spec = tie.close (tie.spec add-two two-requires mul-result two-requires-2 add-result returns)

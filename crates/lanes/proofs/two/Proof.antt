@@ -1,6 +1,6 @@
 use Rattle.lanes.proofs.two.Statement.{statement}
 use Rattle.lanes.proofs.two.Tie as tie
-use Rattle.lanes.proofs.WordSteps.{word-steps}
+use Rattle.lanes.proofs.WordSteps.{word_steps}
 use Rattle.lanes.proofs.Asked.{asked}
 
 add-result : tie.Need-overflow-add-result
@@ -25,7 +25,7 @@ add-result-2 : tie.Need-overflow-add-result-2
 add-result-2 c = search asked
 
 returns : tie.Need-returns
-returns c = search word-steps
+returns c = search word_steps
 
 pub two-spec : {M : Type 1} → statement M
 two-spec =

@@ -1,6 +1,6 @@
 use Rattle.lanes.proofs.word.Statement.{statement}
 use Rattle.lanes.proofs.word.Tie as tie
-use Rattle.lanes.proofs.WordSteps.{word-steps}
+use Rattle.lanes.proofs.WordSteps.{word_steps}
 use Rattle.lanes.proofs.Asked.{asked}
 
 add-four : tie.Need-overflow-add-four
@@ -19,7 +19,7 @@ add-result : tie.Need-overflow-add-result
 add-result c = search asked
 
 returns : tie.Need-returns
-returns c = search word-steps
+returns c = search word_steps
 
 pub word-spec : {M : Type 1} → statement M
 word-spec =

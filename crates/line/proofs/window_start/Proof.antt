@@ -1,5 +1,5 @@
 use Prim.Native.Nat.{◌-◌, ◌≤◌}
-use Rattle.line.proofs.Steps.{line-steps}
+use Rattle.line.proofs.Steps.{line_steps}
 use Rattle.line.proofs.window_start.Statement.{statement}
 use Rattle.line.proofs.window_start.Tie as tie
 
@@ -10,37 +10,37 @@ abbrev decreases-loop : tie.decreases-loop
 decreases-loop s start p i₀ i = p - i
 
 sub-if1 : tie.Need-overflow-sub-if1 invariant-loop decreases-loop
-sub-if1 c = search line-steps
+sub-if1 c = search line_steps
 
 returns : tie.Need-returns invariant-loop decreases-loop
-returns c = search line-steps
+returns c = search line_steps
 
 sub-i : tie.Need-overflow-sub-i invariant-loop decreases-loop
-sub-i c = search line-steps
+sub-i c = search line_steps
 
 loop_holds : tie.Need-loop-init invariant-loop decreases-loop
-loop_holds c = search line-steps
+loop_holds c = search line_steps
 
 byte_requires : tie.Need-byte-requires invariant-loop decreases-loop
-byte_requires c κs = search line-steps
+byte_requires c κs = search line_steps
 
 continues-requires : tie.Need-continues-requires invariant-loop decreases-loop
-continues-requires c κs = search line-steps
+continues-requires c κs = search line_steps
 
 add-i : tie.Need-overflow-add-i invariant-loop decreases-loop
-add-i c = search line-steps
+add-i c = search line_steps
 
 loop_less : tie.Need-loop-smaller invariant-loop decreases-loop
-loop_less c = search line-steps
+loop_less c = search line_steps
 
 loop_again : tie.Need-loop-preserved invariant-loop decreases-loop
-loop_again c = search line-steps
+loop_again c = search line_steps
 
 returns_2 : tie.Need-returns-2 invariant-loop decreases-loop
-returns_2 c = search line-steps
+returns_2 c = search line_steps
 
 returns_3 : tie.Need-returns-3 invariant-loop decreases-loop
-returns_3 c = search line-steps
+returns_3 c = search line_steps
 
 pub window-start-spec : {M : Type 1} → statement M
 window-start-spec =

@@ -1,7 +1,7 @@
 use Prim.Native.Nat.{◌≤◌}
 use lib.ListN.{length}
 use mathlib.Core.Path.{◌≡◌}
-use Rattle.many.proofs.Steps.{part-asked}
+use Rattle.many.proofs.Steps.{part_asked}
 use Rattle.many.proofs.take_bytes.Statement.{statement}
 use Rattle.many.proofs.take_bytes.Tie as tie
 
@@ -12,40 +12,40 @@ abbrev decreases-loop : tie.decreases-loop
 decreases-loop item₀ n left₀ item left = left
 
 loop_holds : tie.Need-loop-init invariant-loop decreases-loop
-loop_holds c = search part-asked
+loop_holds c = search part_asked
 
 read-full-requires : tie.Need-read-full-requires invariant-loop decreases-loop
-read-full-requires c κs = search part-asked
+read-full-requires c κs = search part_asked
 
 same_length : tie.Need-same-length invariant-loop decreases-loop
-same_length c = search part-asked
+same_length c = search part_asked
 
 returns : tie.Need-returns invariant-loop decreases-loop
-returns c = search part-asked
+returns c = search part_asked
 
 sub-left : tie.Need-overflow-sub-left invariant-loop decreases-loop
-sub-left c = search part-asked
+sub-left c = search part_asked
 
 loop_less : tie.Need-loop-smaller invariant-loop decreases-loop
-loop_less c = search part-asked
+loop_less c = search part_asked
 
 loop_again : tie.Need-loop-preserved invariant-loop decreases-loop
-loop_again c = search part-asked
+loop_again c = search part_asked
 
 slice-relend-prefix-read-full : tie.Need-slice-relend-prefix-read-full invariant-loop decreases-loop
-slice-relend-prefix-read-full c = search part-asked
+slice-relend-prefix-read-full c = search part_asked
 
 slice-aggregate-read-full : tie.Need-slice-aggregate-read-full invariant-loop decreases-loop
-slice-aggregate-read-full c = search part-asked
+slice-aggregate-read-full c = search part_asked
 
 read-full-requires-2 : tie.Need-read-full-requires-2 invariant-loop decreases-loop
-read-full-requires-2 c κs = search part-asked
+read-full-requires-2 c κs = search part_asked
 
 same_length_2 : tie.Need-same-length-2 invariant-loop decreases-loop
-same_length_2 c = search part-asked
+same_length_2 c = search part_asked
 
 returns_2 : tie.Need-returns-2 invariant-loop decreases-loop
-returns_2 c = search part-asked
+returns_2 c = search part_asked
 
 pub take-bytes-spec : {M : Type 1} → statement M
 take-bytes-spec =

@@ -1,10 +1,10 @@
-use Rattle.many.proofs.Steps.{part-asked}
+use Rattle.many.proofs.Steps.{part_asked}
 use borrow.Author.Rules.{rules}
 use Rattle.many.proofs.write_front.Statement.{statement}
 use Rattle.many.proofs.write_front.Tie as tie
 
 slice-aggregate-write-all : tie.Need-slice-aggregate-write-all
-slice-aggregate-write-all c = search part-asked
+slice-aggregate-write-all c = search part_asked
 
 write-all-requires : tie.Need-write-all-requires
 write-all-requires c κs = search rules

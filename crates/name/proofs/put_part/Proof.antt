@@ -1,21 +1,21 @@
-use Rattle.name.proofs.WriterSteps.{writer-asked, writer-steps}
+use Rattle.name.proofs.WriterSteps.{writer_asked, writer_steps}
 use Rattle.name.proofs.put_part.Statement.{statement}
 use Rattle.name.proofs.put_part.Tie as tie
 
 returns : tie.Need-returns
-returns c = search writer-steps
+returns c = search writer_steps
 
 dashed-requires : tie.Need-dashed-requires
-dashed-requires c κs = search writer-asked
+dashed-requires c κs = search writer_asked
 
 put-node-at-requires : tie.Need-put-node-at-requires
-put-node-at-requires c κs = search writer-asked
+put-node-at-requires c κs = search writer_asked
 
 same_length : tie.Need-same-length
-same_length c = search writer-asked
+same_length c = search writer_asked
 
 returns_2 : tie.Need-returns-2
-returns_2 c = search writer-steps
+returns_2 c = search writer_steps
 
 pub put-part-spec : {M : Type 1} → statement M
 put-part-spec =

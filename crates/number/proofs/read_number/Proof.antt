@@ -1,7 +1,7 @@
 use Rattle.number.proofs.Asked.{asked}
 use Rattle.number.proofs.read_number.Statement.{statement}
 use Rattle.number.proofs.read_number.Tie as tie
-use Rattle.number.proofs.NumberSteps.{number-steps}
+use Rattle.number.proofs.NumberSteps.{number_steps}
 
 skip-whole-requires : tie.Need-skip-whole-requires
 skip-whole-requires c κs = search asked
@@ -13,7 +13,7 @@ end-number-requires : tie.Need-end-number-requires
 end-number-requires c κs = search asked
 
 returns : tie.Need-returns
-returns c = search number-steps
+returns c = search number_steps
 
 add-p : tie.Need-overflow-add-p
 add-p c = search asked
@@ -31,10 +31,10 @@ end-number-requires-2 : tie.Need-end-number-requires-2
 end-number-requires-2 c κs = search asked
 
 returns_2 : tie.Need-returns-2
-returns_2 c = search number-steps
+returns_2 c = search number_steps
 
 returns_3 : tie.Need-returns-3
-returns_3 c = search number-steps
+returns_3 c = search number_steps
 
 pub read-number-spec : {M : Type 1} → statement M
 read-number-spec =

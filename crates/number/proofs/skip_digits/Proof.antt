@@ -6,7 +6,7 @@ use Rattle.jsx.specs.Byte.{digit}
 use Rattle.lex.proofs.Turns.{Turns}
 use Rattle.number.proofs.skip_digits.Statement.{statement}
 use Rattle.number.proofs.skip_digits.Tie as tie
-use Rattle.number.proofs.DigitSteps.{digit-steps}
+use Rattle.number.proofs.DigitSteps.{digit_steps}
 
 abbrev invariant-loop : tie.invariant-loop
 invariant-loop s at p₀ p = Turns s (when digit step stop) 0 (at + 1) p
@@ -18,7 +18,7 @@ add-p : tie.Need-overflow-add-p invariant-loop decreases-loop
 add-p c = search asked
 
 loop_holds : tie.Need-loop-init invariant-loop decreases-loop
-loop_holds c = search digit-steps
+loop_holds c = search digit_steps
 
 byte_requires : tie.Need-byte-requires invariant-loop decreases-loop
 byte_requires c κs = search asked
@@ -33,10 +33,10 @@ loop_less : tie.Need-loop-smaller invariant-loop decreases-loop
 loop_less c = search asked
 
 loop_again : tie.Need-loop-preserved invariant-loop decreases-loop
-loop_again c = search digit-steps
+loop_again c = search digit_steps
 
 returns : tie.Need-returns invariant-loop decreases-loop
-returns c = search digit-steps
+returns c = search digit_steps
 
 pub skip-digits-spec : {M : Type 1} → statement M
 skip-digits-spec =

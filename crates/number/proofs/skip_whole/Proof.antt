@@ -1,7 +1,7 @@
 use Rattle.number.proofs.Asked.{asked}
 use Rattle.number.proofs.skip_whole.Statement.{statement}
 use Rattle.number.proofs.skip_whole.Tie as tie
-use Rattle.number.proofs.NumberSteps.{number-steps}
+use Rattle.number.proofs.NumberSteps.{number_steps}
 
 byte_requires : tie.Need-byte-requires
 byte_requires c κs = search asked
@@ -13,10 +13,10 @@ skip-digits-requires : tie.Need-skip-digits-requires
 skip-digits-requires c κs = search asked
 
 returns : tie.Need-returns
-returns c = search number-steps
+returns c = search number_steps
 
 returns_2 : tie.Need-returns-2
-returns_2 c = search number-steps
+returns_2 c = search number_steps
 
 pub skip-whole-spec : {M : Type 1} → statement M
 skip-whole-spec =

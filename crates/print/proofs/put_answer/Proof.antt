@@ -1,7 +1,7 @@
 use borrow.Author.Rules.{rules}
 use Rattle.print.proofs.put_answer.Statement.{statement}
 use Rattle.print.proofs.put_answer.Tie as tie
-use Rattle.print.proofs.Steps.{answer-steps, answer-asked}
+use Rattle.print.proofs.Steps.{answer_steps, answer_asked}
 
 enum_known_r : tie.Need-enum-known-r
 enum_known_r c = search rules
@@ -10,7 +10,7 @@ put-ok-requires : tie.Need-put-ok-requires
 put-ok-requires c κs = search rules
 
 put-rows-requires : tie.Need-put-rows-requires
-put-rows-requires c κs = search answer-asked
+put-rows-requires c κs = search answer_asked
 
 enum-known-r-2 : tie.Need-enum-known-r-2
 enum-known-r-2 c = search rules
@@ -25,13 +25,13 @@ same_length : tie.Need-same-length
 same_length c = search rules
 
 returns : tie.Need-returns
-returns c = search answer-steps
+returns c = search answer_steps
 
 same_length_2 : tie.Need-same-length-2
 same_length_2 c = search rules
 
 returns_2 : tie.Need-returns-2
-returns_2 c = search answer-steps
+returns_2 c = search answer_steps
 
 pub put-answer-spec : {M : Type 1} → statement M
 put-answer-spec =

@@ -7,7 +7,7 @@ use Rattle.put.proofs.+put_rows.Lts-put_rows as put-rows-lts
 use Rattle.put.proofs.put_row.Reads as put-row-reads
 use Rattle.put.proofs.+put_rows.{statement}
 use Rattle.put.proofs.+put_rows.Tie.{close}
-use Rattle.put.proofs.Steps.{row-steps}
+use Rattle.put.proofs.Steps.{row_steps}
 
 abbrev μ-put-rows : Measures 2 put-rows-kinds.ps ℕ
 μ-put-rows κs a = a.1.1.1.0
@@ -25,7 +25,7 @@ put-rows-returns : (t : ℕ) → put-rows-lts.Need-returns (
   put-rows-below t,
   put-rows.Post,
 ) (put-rows-at t) put-rows.Post
-put-rows-returns t c = search row-steps
+put-rows-returns t c = search row_steps
 
 put-rows-put-row-requires : (t : ℕ) → put-rows-lts.Need-put-row-requires (
   put-row-reads.Asked,
@@ -33,7 +33,7 @@ put-rows-put-row-requires : (t : ℕ) → put-rows-lts.Need-put-row-requires (
   put-rows-below t,
   put-rows.Post,
 ) (put-rows-at t) put-rows.Post
-put-rows-put-row-requires t c κs = search row-steps
+put-rows-put-row-requires t c κs = search row_steps
 
 put-rows-sub-put-rows : (t : ℕ) → put-rows-lts.Need-overflow-sub-put-rows (
   put-row-reads.Asked,
@@ -41,7 +41,7 @@ put-rows-sub-put-rows : (t : ℕ) → put-rows-lts.Need-overflow-sub-put-rows (
   put-rows-below t,
   put-rows.Post,
 ) (put-rows-at t) put-rows.Post
-put-rows-sub-put-rows t c = search row-steps
+put-rows-sub-put-rows t c = search row_steps
 
 put-rows-add-put-rows : (t : ℕ) → put-rows-lts.Need-overflow-add-put-rows (
   put-row-reads.Asked,
@@ -49,7 +49,7 @@ put-rows-add-put-rows : (t : ℕ) → put-rows-lts.Need-overflow-add-put-rows (
   put-rows-below t,
   put-rows.Post,
 ) (put-rows-at t) put-rows.Post
-put-rows-add-put-rows t c = search row-steps
+put-rows-add-put-rows t c = search row_steps
 
 put-rows-put-rows-requires : (t : ℕ) → put-rows-lts.Need-put-rows-requires (
   put-row-reads.Asked,
@@ -57,7 +57,7 @@ put-rows-put-rows-requires : (t : ℕ) → put-rows-lts.Need-put-rows-requires (
   put-rows-below t,
   put-rows.Post,
 ) (put-rows-at t) put-rows.Post
-put-rows-put-rows-requires t c κs = search row-steps
+put-rows-put-rows-requires t c κs = search row_steps
 
 put-rows-same-length : (t : ℕ) → put-rows-lts.Need-same-length (
   put-row-reads.Asked,
@@ -65,7 +65,7 @@ put-rows-same-length : (t : ℕ) → put-rows-lts.Need-same-length (
   put-rows-below t,
   put-rows.Post,
 ) (put-rows-at t) put-rows.Post
-put-rows-same-length t c = search row-steps
+put-rows-same-length t c = search row_steps
 
 put-rows-returns-2 : (t : ℕ) → put-rows-lts.Need-returns-2 (
   put-row-reads.Asked,
@@ -73,7 +73,7 @@ put-rows-returns-2 : (t : ℕ) → put-rows-lts.Need-returns-2 (
   put-rows-below t,
   put-rows.Post,
 ) (put-rows-at t) put-rows.Post
-put-rows-returns-2 t c = search row-steps
+put-rows-returns-2 t c = search row_steps
 
 pub +put-rows-spec : {M : Type 1} → statement M
 +put-rows-spec = close μ-put-rows λ t. put-rows-lts.spec (

@@ -1,7 +1,7 @@
 use borrow.Author.Rules.{rules}
 use Rattle.put.proofs.put_byte.Statement.{statement}
 use Rattle.put.proofs.put_byte.Tie as tie
-use Rattle.put.proofs.Steps.{byte-steps}
+use Rattle.put.proofs.Steps.{byte_steps}
 
 cast-out : tie.Need-overflow-cast-out
 cast-out c = search rules
@@ -22,7 +22,7 @@ add-result-2 : tie.Need-overflow-add-result-2
 add-result-2 c = search rules
 
 returns_2 : tie.Need-returns-2
-returns_2 c = search byte-steps
+returns_2 c = search byte_steps
 
 pub put-byte-spec : {M : Type 1} → statement M
 put-byte-spec =

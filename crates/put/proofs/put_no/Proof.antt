@@ -1,7 +1,7 @@
 use borrow.Author.Rules.{rules}
 use Rattle.put.proofs.put_no.Statement.{statement}
 use Rattle.put.proofs.put_no.Tie as tie
-use Rattle.put.proofs.Steps.{first-line-steps}
+use Rattle.put.proofs.Steps.{first_line_steps}
 
 cast-put-two : tie.Need-overflow-cast-put-two
 cast-put-two c = search rules
@@ -28,7 +28,7 @@ same_length : tie.Need-same-length
 same_length c = search rules
 
 returns : tie.Need-returns
-returns c = search first-line-steps
+returns c = search first_line_steps
 
 pub put-no-spec : {M : Type 1} → statement M
 put-no-spec =

@@ -1,7 +1,7 @@
 use borrow.Author.Rules.{rules}
 use Rattle.put.proofs.put_parent.Statement.{statement}
 use Rattle.put.proofs.put_parent.Tie as tie
-use Rattle.put.proofs.Steps.{row-steps}
+use Rattle.put.proofs.Steps.{row_steps}
 
 put-two-requires : tie.Need-put-two-requires
 put-two-requires c κs = search rules
@@ -10,7 +10,7 @@ same_length : tie.Need-same-length
 same_length c = search rules
 
 returns : tie.Need-returns
-returns c = search row-steps
+returns c = search row_steps
 
 put-field-requires : tie.Need-put-field-requires
 put-field-requires c κs = search rules
@@ -19,7 +19,7 @@ same_length_2 : tie.Need-same-length-2
 same_length_2 c = search rules
 
 returns_2 : tie.Need-returns-2
-returns_2 c = search row-steps
+returns_2 c = search row_steps
 
 pub put-parent-spec : {M : Type 1} → statement M
 put-parent-spec =

@@ -1,7 +1,7 @@
 use borrow.Author.Rules.{rules}
 use Rattle.put.proofs.put_row.Statement.{statement}
 use Rattle.put.proofs.put_row.Tie as tie
-use Rattle.put.proofs.Steps.{row-steps}
+use Rattle.put.proofs.Steps.{row_steps}
 
 put-decimal-requires : tie.Need-put-decimal-requires
 put-decimal-requires c κs = search rules
@@ -25,7 +25,7 @@ same_length : tie.Need-same-length
 same_length c = search rules
 
 returns : tie.Need-returns
-returns c = search row-steps
+returns c = search row_steps
 
 pub put-row-spec : {M : Type 1} → statement M
 put-row-spec =

@@ -1,7 +1,7 @@
 use borrow.Author.Rules.{rules}
 use Rattle.put.proofs.put_span.Statement.{statement}
 use Rattle.put.proofs.put_span.Tie as tie
-use Rattle.put.proofs.Steps.{row-steps}
+use Rattle.put.proofs.Steps.{row_steps}
 
 put-word-requires : tie.Need-put-word-requires
 put-word-requires c κs = search rules
@@ -22,7 +22,7 @@ same_length : tie.Need-same-length
 same_length c = search rules
 
 returns : tie.Need-returns
-returns c = search row-steps
+returns c = search row_steps
 
 pub put-span-spec : {M : Type 1} → statement M
 put-span-spec =

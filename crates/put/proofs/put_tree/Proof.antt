@@ -1,7 +1,7 @@
 use borrow.Author.Rules.{rules}
 use Rattle.put.proofs.put_tree.Statement.{statement}
 use Rattle.put.proofs.put_tree.Tie as tie
-use Rattle.put.proofs.Steps.{row-steps}
+use Rattle.put.proofs.Steps.{row_steps}
 
 add-table-word : tie.Need-overflow-add-table-word
 add-table-word c = search rules
@@ -37,7 +37,7 @@ same_length : tie.Need-same-length
 same_length c = search rules
 
 returns : tie.Need-returns
-returns c = search row-steps
+returns c = search row_steps
 
 pub put-tree-spec : {M : Type 1} → statement M
 put-tree-spec =

@@ -1,7 +1,7 @@
 use borrow.Author.Rules.{rules}
 use Rattle.put.proofs.put_word.Statement.{statement}
 use Rattle.put.proofs.put_word.Tie as tie
-use Rattle.put.proofs.Steps.{row-steps}
+use Rattle.put.proofs.Steps.{row_steps}
 
 table-word-requires : tie.Need-table-word-requires
 table-word-requires c κs = search rules
@@ -16,7 +16,7 @@ same_length : tie.Need-same-length
 same_length c = search rules
 
 returns : tie.Need-returns
-returns c = search row-steps
+returns c = search row_steps
 
 pub put-word-spec : {M : Type 1} → statement M
 put-word-spec =

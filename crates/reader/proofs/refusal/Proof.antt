@@ -1,4 +1,4 @@
-use Rattle.reader.proofs.PlainSteps.{plain-steps}
+use Rattle.reader.proofs.PlainSteps.{plain_steps}
 use borrow.Author.Rules.{rules}
 use Rattle.reader.proofs.refusal.Statement.{statement}
 use Rattle.reader.proofs.refusal.Tie as tie
@@ -10,10 +10,10 @@ enum-known-r-2 : tie.Need-enum-known-r-2
 enum-known-r-2 c = search rules
 
 returns : tie.Need-returns
-returns c = search plain-steps
+returns c = search plain_steps
 
 returns_2 : tie.Need-returns-2
-returns_2 c = search plain-steps
+returns_2 c = search plain_steps
 
 pub refusal-spec : {M : Type 1} → statement M
 refusal-spec = tie.close (tie.spec enum_known_r enum-known-r-2 returns returns_2)

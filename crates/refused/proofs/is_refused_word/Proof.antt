@@ -5,7 +5,7 @@ use Rattle.jsx.specs.Word.{on_first, cut, words, among, reserved, spared, strict
 use Rattle.lex.specs.Contract.{bytes_from}
 use Rattle.refused.specs.WordList.{good, covered, each, cells}
 use Rattle.refused.proofs.Asked.{asked}
-use Rattle.refused.proofs.RefusedSteps.{refused-steps}
+use Rattle.refused.proofs.RefusedSteps.{refused_steps}
 use Rattle.refused.proofs.is_refused_word.Statement.{statement}
 use Rattle.refused.proofs.is_refused_word.Tie as tie
 
@@ -76,34 +76,34 @@ unfolding good covered each cells bytes_from same cut on_first words among reser
 is-listed-requires-9 c κs = (refl, omega arith, omega arith, omega arith)
 
 returns : tie.Need-returns
-returns c = search refused-steps
+returns c = search refused_steps
 
 returns_2 : tie.Need-returns-2
-returns_2 c = search refused-steps
+returns_2 c = search refused_steps
 
 returns_3 : tie.Need-returns-3
-returns_3 c = search refused-steps
+returns_3 c = search refused_steps
 
 returns_4 : tie.Need-returns-4
-returns_4 c = search refused-steps
+returns_4 c = search refused_steps
 
 returns_5 : tie.Need-returns-5
-returns_5 c = search refused-steps
+returns_5 c = search refused_steps
 
 returns_6 : tie.Need-returns-6
-returns_6 c = search refused-steps
+returns_6 c = search refused_steps
 
 returns_7 : tie.Need-returns-7
-returns_7 c = search refused-steps
+returns_7 c = search refused_steps
 
 returns_8 : tie.Need-returns-8
-returns_8 c = search refused-steps
+returns_8 c = search refused_steps
 
 returns_9 : tie.Need-returns-9
-returns_9 c = search refused-steps
+returns_9 c = search refused_steps
 
 returns_10 : tie.Need-returns-10
-returns_10 c = search refused-steps
+returns_10 c = search refused_steps
 
 pub is-refused-word-spec : {M : Type 1} → statement M
 is-refused-word-spec =

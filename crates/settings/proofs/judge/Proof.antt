@@ -1,45 +1,45 @@
 use Rattle.settings.proofs.judge.Statement.{statement}
 use Rattle.settings.proofs.judge.Tie as tie
-use Rattle.settings.proofs.Steps.{record-steps}
+use Rattle.settings.proofs.Steps.{record_steps}
 
 marks-other-requires : tie.Need-marks-other-requires
-marks-other-requires c κs = search record-steps
+marks-other-requires c κs = search record_steps
 
 returns : tie.Need-returns
-returns c = search record-steps
+returns c = search record_steps
 
 is-cut-requires : tie.Need-is-cut-requires
-is-cut-requires c κs = search record-steps
+is-cut-requires c κs = search record_steps
 
 returns_2 : tie.Need-returns-2
-returns_2 c = search record-steps
+returns_2 c = search record_steps
 
 add-byte : tie.Need-overflow-add-byte
-add-byte c = search record-steps
+add-byte c = search record_steps
 
 byte_requires : tie.Need-byte-requires
-byte_requires c κs = search record-steps
+byte_requires c κs = search record_steps
 
 depth-set-requires : tie.Need-depth-set-requires
-depth-set-requires c κs = search record-steps
+depth-set-requires c κs = search record_steps
 
 returns_3 : tie.Need-returns-3
-returns_3 c = search record-steps
+returns_3 c = search record_steps
 
 length-set-requires : tie.Need-length-set-requires
-length-set-requires c κs = search record-steps
+length-set-requires c κs = search record_steps
 
 returns_4 : tie.Need-returns-4
-returns_4 c = search record-steps
+returns_4 c = search record_steps
 
 cast-t9 : tie.Need-overflow-cast-t9
-cast-t9 c = search record-steps
+cast-t9 c = search record_steps
 
 returns_5 : tie.Need-returns-5
-returns_5 c = search record-steps
+returns_5 c = search record_steps
 
 returns_6 : tie.Need-returns-6
-returns_6 c = search record-steps
+returns_6 c = search record_steps
 
 pub judge-spec : {M : Type 1} → statement M
 judge-spec =

@@ -1,7 +1,7 @@
 use mathlib.Core.Path.{◌≡◌}
 use Prim.Native.Nat.{◌-◌, ◌≤◌}
 use Rattle.spot.specs.Spot.{spot_at}
-use Rattle.spot.proofs.Steps.{spot-steps}
+use Rattle.spot.proofs.Steps.{spot_steps}
 use Rattle.spot.proofs.spot.Statement.{statement}
 use Rattle.spot.proofs.spot.Tie as tie
 
@@ -12,22 +12,22 @@ abbrev decreases-loop : tie.decreases-loop
 decreases-loop s p x₀ i₀ x i = p - i
 
 loop_holds : tie.Need-loop-init invariant-loop decreases-loop
-loop_holds c = search spot-steps
+loop_holds c = search spot_steps
 
 step-requires : tie.Need-step-requires invariant-loop decreases-loop
-step-requires c κs = search spot-steps
+step-requires c κs = search spot_steps
 
 add-i : tie.Need-overflow-add-i invariant-loop decreases-loop
-add-i c = search spot-steps
+add-i c = search spot_steps
 
 loop_less : tie.Need-loop-smaller invariant-loop decreases-loop
-loop_less c = search spot-steps
+loop_less c = search spot_steps
 
 loop_again : tie.Need-loop-preserved invariant-loop decreases-loop
-loop_again c = search spot-steps
+loop_again c = search spot_steps
 
 returns : tie.Need-returns invariant-loop decreases-loop
-returns c = search spot-steps
+returns c = search spot_steps
 
 pub spot-spec : {M : Type 1} → statement M
 spot-spec =

@@ -1,36 +1,36 @@
 use Rattle.stage.proofs.read_run_within.Statement.{statement}
 use Rattle.stage.proofs.read_run_within.Tie as tie
-use Rattle.stage.proofs.CallSteps.{read-steps, call-asked}
+use Rattle.stage.proofs.CallSteps.{read_steps, call_asked}
 
 check-run-within-requires : tie.Need-check-run-within-requires
-check-run-within-requires c κs = search call-asked
+check-run-within-requires c κs = search call_asked
 
 enum_known_r : tie.Need-enum-known-r
-enum_known_r c = search call-asked
+enum_known_r c = search call_asked
 
 enum_told : tie.Need-enum-told
-enum_told c = search call-asked
+enum_told c = search call_asked
 
 returns : tie.Need-returns
-returns c = search read-steps
+returns c = search read_steps
 
 returns_2 : tie.Need-returns-2
-returns_2 c = search read-steps
+returns_2 c = search read_steps
 
 capped-requires : tie.Need-capped-requires
-capped-requires c κs = search call-asked
+capped-requires c κs = search call_asked
 
 run-into-requires : tie.Need-run-into-requires
-run-into-requires c κs = search call-asked
+run-into-requires c κs = search call_asked
 
 to-reply-requires : tie.Need-to-reply-requires
-to-reply-requires c κs = search call-asked
+to-reply-requires c κs = search call_asked
 
 same_length : tie.Need-same-length
-same_length c = search call-asked
+same_length c = search call_asked
 
 returns_3 : tie.Need-returns-3
-returns_3 c = search read-steps
+returns_3 c = search read_steps
 
 pub read-run-within-spec : {M : Type 1} → statement M
 read-run-within-spec =

@@ -1,18 +1,18 @@
 use Rattle.stage.proofs.read_stage.Statement.{statement}
 use Rattle.stage.proofs.read_stage.Tie as tie
-use Rattle.stage.proofs.CallSteps.{read-steps, call-asked}
+use Rattle.stage.proofs.CallSteps.{read_steps, call_asked}
 
 standard-requires : tie.Need-standard-requires
-standard-requires c κs = search call-asked
+standard-requires c κs = search call_asked
 
 read-stage-within-requires : tie.Need-read-stage-within-requires
-read-stage-within-requires c κs = search call-asked
+read-stage-within-requires c κs = search call_asked
 
 same_length : tie.Need-same-length
-same_length c = search call-asked
+same_length c = search call_asked
 
 returns : tie.Need-returns
-returns c = search read-steps
+returns c = search read_steps
 
 pub read-stage-spec : {M : Type 1} → statement M
 read-stage-spec =

@@ -1,10 +1,10 @@
 use borrow.Author.Rules.{rules}
 use Rattle.table.proofs.put_cut.Statement.{statement}
 use Rattle.table.proofs.put_cut.Tie as tie
-use Rattle.table.proofs.Seats.{row-steps}
+use Rattle.table.proofs.Seats.{row_steps}
 
 put-three-requires : tie.Need-put-three-requires
-put-three-requires c κs = search row-steps
+put-three-requires c κs = search row_steps
 
 number-requires : tie.Need-number-requires
 number-requires c κs = search rules
@@ -16,19 +16,19 @@ add-put-three-2 : tie.Need-overflow-add-put-three-2
 add-put-three-2 c = search rules
 
 put-three-requires-2 : tie.Need-put-three-requires-2
-put-three-requires-2 c κs = search row-steps
+put-three-requires-2 c κs = search row_steps
 
 depth-requires : tie.Need-depth-requires
 depth-requires c κs = search rules
 
 put-word-requires : tie.Need-put-word-requires
-put-word-requires c κs = search row-steps
+put-word-requires c κs = search row_steps
 
 same_length : tie.Need-same-length
 same_length c = search rules
 
 returns : tie.Need-returns
-returns c = search row-steps
+returns c = search row_steps
 
 pub put-cut-spec : {M : Type 1} → statement M
 put-cut-spec =

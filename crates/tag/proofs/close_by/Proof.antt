@@ -1,4 +1,4 @@
-use Rattle.tag.proofs.TokenSteps.{token_asked, token-steps}
+use Rattle.tag.proofs.TokenSteps.{token_asked, token_steps}
 use Rattle.tag.proofs.close_by.Statement.{statement}
 use Rattle.tag.proofs.close_by.Tie as tie
 
@@ -12,13 +12,13 @@ enum_told : tie.Need-enum-told
 enum_told c = search token_asked
 
 returns : tie.Need-returns
-returns c = search token-steps
+returns c = search token_steps
 
 expect_requires : tie.Need-expect-requires
 expect_requires c κs = search token_asked
 
 returns_2 : tie.Need-returns-2
-returns_2 c = search token-steps
+returns_2 c = search token_steps
 
 pub close-by-spec : {M : Type 1} → statement M
 close-by-spec =

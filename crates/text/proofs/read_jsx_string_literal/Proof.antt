@@ -1,6 +1,6 @@
 use Rattle.text.proofs.read_jsx_string_literal.Statement.{statement}
 use Rattle.text.proofs.read_jsx_string_literal.Tie as tie
-use Rattle.text.proofs.QuoteSteps.{quote-steps}
+use Rattle.text.proofs.QuoteSteps.{quote_steps}
 use Rattle.text.proofs.Asked.{asked}
 
 byte_requires : tie.Need-byte-requires
@@ -16,10 +16,10 @@ add-t7 : tie.Need-overflow-add-t7
 add-t7 c = search asked
 
 returns : tie.Need-returns
-returns c = search quote-steps
+returns c = search quote_steps
 
 returns_2 : tie.Need-returns-2
-returns_2 c = search quote-steps
+returns_2 c = search quote_steps
 
 pub read-jsx-string-literal-spec : {M : Type 1} → statement M
 read-jsx-string-literal-spec =

@@ -1,27 +1,27 @@
 use Rattle.token.proofs.attribute_at.Statement.{statement}
 use Rattle.token.proofs.attribute_at.Tie as tie
-use Rattle.token.proofs.BetweenSteps.{attribute-steps, between-asked}
+use Rattle.token.proofs.BetweenSteps.{attribute_steps, between_asked}
 
 skip_blanks_requires : tie.Need-skip-blanks-requires
-skip_blanks_requires c κs = search between-asked
+skip_blanks_requires c κs = search between_asked
 
 enum_known_r : tie.Need-enum-known-r
-enum_known_r c = search between-asked
+enum_known_r c = search between_asked
 
 enum_told : tie.Need-enum-told
-enum_told c = search between-asked
+enum_told c = search between_asked
 
 returns : tie.Need-returns
-returns c = search attribute-steps
+returns c = search attribute_steps
 
 byte_requires : tie.Need-byte-requires
-byte_requires c κs = search between-asked
+byte_requires c κs = search between_asked
 
 returns_2 : tie.Need-returns-2
-returns_2 c = search attribute-steps
+returns_2 c = search attribute_steps
 
 returns_3 : tie.Need-returns-3
-returns_3 c = search attribute-steps
+returns_3 c = search attribute_steps
 
 pub attribute-at-spec : {M : Type 1} → statement M
 attribute-at-spec =

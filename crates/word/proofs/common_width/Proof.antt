@@ -1,6 +1,6 @@
 use Rattle.word.proofs.common_width.Statement.{statement}
 use Rattle.word.proofs.common_width.Tie as tie
-use Rattle.word.proofs.PartSteps.{part-steps}
+use Rattle.word.proofs.PartSteps.{part_steps}
 use Rattle.word.proofs.Asked.{asked}
 
 byte_requires : tie.Need-byte-requires
@@ -10,10 +10,10 @@ in-name-requires : tie.Need-in-name-requires
 in-name-requires c κs = search asked
 
 returns : tie.Need-returns
-returns c = search part-steps
+returns c = search part_steps
 
 returns_2 : tie.Need-returns-2
-returns_2 c = search part-steps
+returns_2 c = search part_steps
 
 code-at-requires : tie.Need-code-at-requires
 code-at-requires c κs = search asked
@@ -25,10 +25,10 @@ width-requires : tie.Need-width-requires
 width-requires c κs = search asked
 
 returns_3 : tie.Need-returns-3
-returns_3 c = search part-steps
+returns_3 c = search part_steps
 
 returns_4 : tie.Need-returns-4
-returns_4 c = search part-steps
+returns_4 c = search part_steps
 
 pub common-width-spec : {M : Type 1} → statement M
 common-width-spec =

@@ -1,6 +1,6 @@
 use Rattle.word.proofs.end_of_part.Statement.{statement}
 use Rattle.word.proofs.end_of_part.Tie as tie
-use Rattle.word.proofs.PartSteps.{part-steps}
+use Rattle.word.proofs.PartSteps.{part_steps}
 use Rattle.word.proofs.Asked.{asked}
 
 opens-part-requires : tie.Need-opens-part-requires
@@ -19,10 +19,10 @@ end-beyond-requires : tie.Need-end-beyond-requires
 end-beyond-requires c κs = search asked
 
 returns : tie.Need-returns
-returns c = search part-steps
+returns c = search part_steps
 
 returns_2 : tie.Need-returns-2
-returns_2 c = search part-steps
+returns_2 c = search part_steps
 
 pub end-of-part-spec : {M : Type 1} → statement M
 end-of-part-spec =

@@ -1,13 +1,13 @@
 use Rattle.word.proofs.ends_part.Statement.{statement}
 use Rattle.word.proofs.ends_part.Tie as tie
-use Rattle.word.proofs.PartSteps.{part-steps}
+use Rattle.word.proofs.PartSteps.{part_steps}
 use Rattle.word.proofs.Asked.{asked}
 
 byte_requires : tie.Need-byte-requires
 byte_requires c κs = search asked
 
 returns : tie.Need-returns
-returns c = search part-steps
+returns c = search part_steps
 
 code-at-requires : tie.Need-code-at-requires
 code-at-requires c κs = search asked
@@ -16,7 +16,7 @@ is-gap-requires : tie.Need-is-gap-requires
 is-gap-requires c κs = search asked
 
 returns_2 : tie.Need-returns-2
-returns_2 c = search part-steps
+returns_2 c = search part_steps
 
 pub ends-part-spec : {M : Type 1} → statement M
 ends-part-spec =

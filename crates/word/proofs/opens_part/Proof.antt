@@ -1,6 +1,6 @@
 use Rattle.word.proofs.opens_part.Statement.{statement}
 use Rattle.word.proofs.opens_part.Tie as tie
-use Rattle.word.proofs.PartSteps.{part-steps}
+use Rattle.word.proofs.PartSteps.{part_steps}
 use Rattle.word.proofs.Asked.{asked}
 
 code-at-requires : tie.Need-code-at-requires
@@ -10,7 +10,7 @@ opens-code-requires : tie.Need-opens-code-requires
 opens-code-requires c κs = search asked
 
 returns : tie.Need-returns
-returns c = search part-steps
+returns c = search part_steps
 
 pub opens-part-spec : {M : Type 1} → statement M
 opens-part-spec = tie.close (tie.spec code-at-requires opens-code-requires returns)

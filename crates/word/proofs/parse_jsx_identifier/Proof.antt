@@ -1,6 +1,6 @@
 use Prim.Native.Nat.{◌-◌}
 use lib.ListN.{length}
-use Rattle.word.proofs.PartSteps.{Ascii, part-steps}
+use Rattle.word.proofs.PartSteps.{Ascii, part_steps}
 use Rattle.word.proofs.parse_jsx_identifier.Statement.{statement}
 use Rattle.word.proofs.parse_jsx_identifier.Tie as tie
 use Rattle.word.proofs.Asked.{asked}
@@ -21,7 +21,7 @@ add-p : tie.Need-overflow-add-p invariant-loop decreases-loop
 add-p c = search asked
 
 loop_holds : tie.Need-loop-init invariant-loop decreases-loop
-loop_holds c = search part-steps
+loop_holds c = search part_steps
 
 byte_requires_2 : tie.Need-byte-requires-2 invariant-loop decreases-loop
 byte_requires_2 c κs = search asked
@@ -36,13 +36,13 @@ loop_less : tie.Need-loop-smaller invariant-loop decreases-loop
 loop_less c = search asked
 
 loop_again : tie.Need-loop-preserved invariant-loop decreases-loop
-loop_again c = search part-steps
+loop_again c = search part_steps
 
 byte_requires_3 : tie.Need-byte-requires-3 invariant-loop decreases-loop
 byte_requires_3 c κs = search asked
 
 returns : tie.Need-returns invariant-loop decreases-loop
-returns c = search (part-steps, c.before.before.before.before.before.loop.invariant)
+returns c = search (part_steps, c.before.before.before.before.before.loop.invariant)
 
 end-of-part-requires : tie.Need-end-of-part-requires invariant-loop decreases-loop
 end-of-part-requires c κs = search asked
@@ -51,10 +51,10 @@ unexpected_requires : tie.Need-unexpected-requires invariant-loop decreases-loop
 unexpected_requires c κs = search asked
 
 returns_2 : tie.Need-returns-2 invariant-loop decreases-loop
-returns_2 c = search part-steps
+returns_2 c = search part_steps
 
 returns_3 : tie.Need-returns-3 invariant-loop decreases-loop
-returns_3 c = search part-steps
+returns_3 c = search part_steps
 
 pub parse-jsx-identifier-spec : {M : Type 1} → statement M
 parse-jsx-identifier-spec =

@@ -1,6 +1,6 @@
 use Rattle.word.proofs.part_width.Statement.{statement}
 use Rattle.word.proofs.part_width.Tie as tie
-use Rattle.word.proofs.PartSteps.{part-steps}
+use Rattle.word.proofs.PartSteps.{part_steps}
 use Rattle.word.proofs.Asked.{asked}
 
 code-at-requires : tie.Need-code-at-requires
@@ -16,10 +16,10 @@ width-requires : tie.Need-width-requires
 width-requires c κs = search asked
 
 returns : tie.Need-returns
-returns c = search part-steps
+returns c = search part_steps
 
 returns_2 : tie.Need-returns-2
-returns_2 c = search part-steps
+returns_2 c = search part_steps
 
 pub part-width-spec : {M : Type 1} → statement M
 part-width-spec =

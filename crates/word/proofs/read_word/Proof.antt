@@ -1,7 +1,7 @@
 use Rattle.word.proofs.Asked.{asked}
 use Rattle.word.proofs.read_word.Statement.{statement}
 use Rattle.word.proofs.read_word.Tie as tie
-use Rattle.word.proofs.RunSteps.{run-steps}
+use Rattle.word.proofs.RunSteps.{run_steps}
 
 byte_requires : tie.Need-byte-requires
 byte_requires c κs = search asked
@@ -16,10 +16,10 @@ unexpected_requires : tie.Need-unexpected-requires
 unexpected_requires c κs = search asked
 
 returns : tie.Need-returns
-returns c = search run-steps
+returns c = search run_steps
 
 returns_2 : tie.Need-returns-2
-returns_2 c = search run-steps
+returns_2 c = search run_steps
 
 pub read-word-spec : {M : Type 1} → statement M
 read-word-spec =

@@ -6,7 +6,7 @@ use Rattle.jsx.specs.Name.{in_word}
 use Rattle.lex.proofs.Turns.{Turns}
 use Rattle.word.proofs.skip_word.Statement.{statement}
 use Rattle.word.proofs.skip_word.Tie as tie
-use Rattle.word.proofs.RunSteps.{run-steps}
+use Rattle.word.proofs.RunSteps.{run_steps}
 
 abbrev invariant-loop : tie.invariant-loop
 invariant-loop s at p₀ p = Turns s (when in_word step stop) 0 (at + 1) p
@@ -18,7 +18,7 @@ add-p : tie.Need-overflow-add-p invariant-loop decreases-loop
 add-p c = search asked
 
 loop_holds : tie.Need-loop-init invariant-loop decreases-loop
-loop_holds c = search run-steps
+loop_holds c = search run_steps
 
 byte_requires : tie.Need-byte-requires invariant-loop decreases-loop
 byte_requires c κs = search asked
@@ -33,10 +33,10 @@ loop_less : tie.Need-loop-smaller invariant-loop decreases-loop
 loop_less c = search asked
 
 loop_again : tie.Need-loop-preserved invariant-loop decreases-loop
-loop_again c = search run-steps
+loop_again c = search run_steps
 
 returns : tie.Need-returns invariant-loop decreases-loop
-returns c = search run-steps
+returns c = search run_steps
 
 pub skip-word-spec : {M : Type 1} → statement M
 skip-word-spec =

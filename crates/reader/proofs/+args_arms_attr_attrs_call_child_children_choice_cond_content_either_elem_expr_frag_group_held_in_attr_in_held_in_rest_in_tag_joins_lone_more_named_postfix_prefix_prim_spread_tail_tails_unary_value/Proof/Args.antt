@@ -3,7 +3,7 @@ use Rattle.reader.proofs.args.Reads as args
 use Rattle.reader.proofs.+args_arms_attr_attrs_call_child_children_choice_cond_content_either_elem_expr_frag_group_held_in_attr_in_held_in_rest_in_tag_joins_lone_more_named_postfix_prefix_prim_spread_tail_tails_unary_value.Lts-args as args-lts
 use Rattle.reader.proofs.+args_arms_attr_attrs_call_child_children_choice_cond_content_either_elem_expr_frag_group_held_in_attr_in_held_in_rest_in_tag_joins_lone_more_named_postfix_prefix_prim_spread_tail_tails_unary_value.Proof.Setup.{args_calls, args_at}
 use Rattle.table.proofs.Asked.{made_inside}
-use Rattle.reader.proofs.Sets.{asked, args-set}
+use Rattle.reader.proofs.Sets.{asked, args_set}
 
 pub cond_requires : (t : ℕ) → args-lts.Need-cond-requires (args_calls t) (args_at t) args.Post
 cond_requires t c κs = search asked
@@ -18,7 +18,7 @@ pub same_length : (t : ℕ) → args-lts.Need-same-length (args_calls t) (args_a
 same_length t c = search asked
 
 pub returns : (t : ℕ) → args-lts.Need-returns (args_calls t) (args_at t) args.Post
-returns t c = search args-set
+returns t c = search args_set
 
 pub mul_start : (t : ℕ) → args-lts.Need-overflow-mul-start (args_calls t) (args_at t) args.Post
 mul_start t c = search asked
@@ -54,7 +54,7 @@ pub same_length_2 : (t : ℕ) → args-lts.Need-same-length-2 (args_calls t) (ar
 same_length_2 t c = search asked
 
 pub returns_2 : (t : ℕ) → args-lts.Need-returns-2 (args_calls t) (args_at t) args.Post
-returns_2 t c = search args-set
+returns_2 t c = search args_set
 
 pub expect_requires : (t : ℕ) → args-lts.Need-expect-requires (args_calls t) (args_at t) args.Post
 expect_requires t c κs = (search asked, search made_inside)
@@ -69,7 +69,7 @@ pub same_length_3 : (t : ℕ) → args-lts.Need-same-length-3 (args_calls t) (ar
 same_length_3 t c = search asked
 
 pub returns_3 : (t : ℕ) → args-lts.Need-returns-3 (args_calls t) (args_at t) args.Post
-returns_3 t c = search args-set
+returns_3 t c = search args_set
 
 pub add_t17 : (t : ℕ) → args-lts.Need-overflow-add-t17 (args_calls t) (args_at t) args.Post
 add_t17 t c =
@@ -82,4 +82,4 @@ pub same_length_4 : (t : ℕ) → args-lts.Need-same-length-4 (args_calls t) (ar
 same_length_4 t c = search asked
 
 pub returns_4 : (t : ℕ) → args-lts.Need-returns-4 (args_calls t) (args_at t) args.Post
-returns_4 t c = search args-set
+returns_4 t c = search args_set

@@ -6,7 +6,7 @@ use Rattle.reader.proofs.+args_arms_attr_attrs_call_child_children_choice_cond_c
 use Rattle.reader.proofs.+args_arms_attr_attrs_call_child_children_choice_cond_content_either_elem_expr_frag_group_held_in_attr_in_held_in_rest_in_tag_joins_lone_more_named_postfix_prefix_prim_spread_tail_tails_unary_value.Proof.Setup.{cond_calls, cond_at}
 use Rattle.reader.proofs.Asked.{question_inside}
 use Rattle.reader.proofs.Steps.{made_leaf_room}
-use Rattle.reader.proofs.Sets.{cond_asked, cond-set}
+use Rattle.reader.proofs.Sets.{cond_asked, cond_set}
 
 pub either_requires : (t : ℕ) → cond-lts.Need-either-requires (cond_calls t) (cond_at t) cond.Post
 either_requires t c κs = search cond_asked
@@ -21,7 +21,7 @@ pub same_length : (t : ℕ) → cond-lts.Need-same-length (cond_calls t) (cond_a
 same_length t c = search cond_asked
 
 pub returns : (t : ℕ) → cond-lts.Need-returns (cond_calls t) (cond_at t) cond.Post
-returns t c = search cond-set
+returns t c = search cond_set
 
 pub skip_blanks_requires : (t : ℕ) → cond-lts.Need-skip-blanks-requires (cond_calls t) (cond_at t) cond.Post
 skip_blanks_requires t c κs = search cond_asked
@@ -36,7 +36,7 @@ pub same_length_2 : (t : ℕ) → cond-lts.Need-same-length-2 (cond_calls t) (co
 same_length_2 t c = search cond_asked
 
 pub returns_2 : (t : ℕ) → cond-lts.Need-returns-2 (cond_calls t) (cond_at t) cond.Post
-returns_2 t c = search cond-set
+returns_2 t c = search cond_set
 
 pub byte_requires : (t : ℕ) → cond-lts.Need-byte-requires (cond_calls t) (cond_at t) cond.Post
 byte_requires t c κs = search cond_asked
@@ -45,7 +45,7 @@ pub same_length_3 : (t : ℕ) → cond-lts.Need-same-length-3 (cond_calls t) (co
 same_length_3 t c = search cond_asked
 
 pub returns_3 : (t : ℕ) → cond-lts.Need-returns-3 (cond_calls t) (cond_at t) cond.Post
-returns_3 t c = search cond-set
+returns_3 t c = search cond_set
 
 pub mul_start : (t : ℕ) → cond-lts.Need-overflow-mul-start (cond_calls t) (cond_at t) cond.Post
 mul_start t c = search cond_asked
@@ -94,7 +94,7 @@ pub same_length_4 : (t : ℕ) → cond-lts.Need-same-length-4 (cond_calls t) (co
 same_length_4 t c = search cond_asked
 
 pub returns_4 : (t : ℕ) → cond-lts.Need-returns-4 (cond_calls t) (cond_at t) cond.Post
-returns_4 t c = search cond-set
+returns_4 t c = search cond_set
 
 pub add_t19 : (t : ℕ) → cond-lts.Need-overflow-add-t19 (cond_calls t) (cond_at t) cond.Post
 add_t19 t c =
@@ -107,4 +107,4 @@ pub same_length_5 : (t : ℕ) → cond-lts.Need-same-length-5 (cond_calls t) (co
 same_length_5 t c = search cond_asked
 
 pub returns_5 : (t : ℕ) → cond-lts.Need-returns-5 (cond_calls t) (cond_at t) cond.Post
-returns_5 t c = search cond-set
+returns_5 t c = search cond_set

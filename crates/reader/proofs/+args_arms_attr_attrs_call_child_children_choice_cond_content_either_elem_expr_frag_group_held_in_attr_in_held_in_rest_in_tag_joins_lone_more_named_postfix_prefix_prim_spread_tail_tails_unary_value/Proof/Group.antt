@@ -2,10 +2,10 @@ use Prim.Native.Nat.{ℕ}
 use Rattle.reader.proofs.group.Reads as group
 use Rattle.reader.proofs.+args_arms_attr_attrs_call_child_children_choice_cond_content_either_elem_expr_frag_group_held_in_attr_in_held_in_rest_in_tag_joins_lone_more_named_postfix_prefix_prim_spread_tail_tails_unary_value.Lts-group as group-lts
 use Rattle.reader.proofs.+args_arms_attr_attrs_call_child_children_choice_cond_content_either_elem_expr_frag_group_held_in_attr_in_held_in_rest_in_tag_joins_lone_more_named_postfix_prefix_prim_spread_tail_tails_unary_value.Proof.Setup.{group_calls, group_at}
-use Rattle.reader.proofs.Sets.{asked, group-set}
+use Rattle.reader.proofs.Sets.{asked, group_set}
 
 pub returns : (t : ℕ) → group-lts.Need-returns (group_calls t) (group_at t) group.Post
-returns t c = search group-set
+returns t c = search group_set
 
 pub pass_requires : (t : ℕ) → group-lts.Need-pass-requires (group_calls t) (group_at t) group.Post
 pass_requires t c κs = search asked
@@ -17,7 +17,7 @@ pub enum_told : (t : ℕ) → group-lts.Need-enum-told (group_calls t) (group_at
 enum_told t c = search asked
 
 pub returns_2 : (t : ℕ) → group-lts.Need-returns-2 (group_calls t) (group_at t) group.Post
-returns_2 t c = search group-set
+returns_2 t c = search group_set
 
 pub sub_cond : (t : ℕ) → group-lts.Need-overflow-sub-cond (group_calls t) (group_at t) group.Post
 sub_cond t c = search asked
@@ -35,7 +35,7 @@ pub same_length : (t : ℕ) → group-lts.Need-same-length (group_calls t) (grou
 same_length t c = search asked
 
 pub returns_3 : (t : ℕ) → group-lts.Need-returns-3 (group_calls t) (group_at t) group.Post
-returns_3 t c = search group-set
+returns_3 t c = search group_set
 
 pub close_by_requires : (t : ℕ) → group-lts.Need-close-by-requires (group_calls t) (group_at t) group.Post
 close_by_requires t c κs = search asked
@@ -50,10 +50,10 @@ pub same_length_2 : (t : ℕ) → group-lts.Need-same-length-2 (group_calls t) (
 same_length_2 t c = search asked
 
 pub returns_4 : (t : ℕ) → group-lts.Need-returns-4 (group_calls t) (group_at t) group.Post
-returns_4 t c = search group-set
+returns_4 t c = search group_set
 
 pub same_length_3 : (t : ℕ) → group-lts.Need-same-length-3 (group_calls t) (group_at t) group.Post
 same_length_3 t c = search asked
 
 pub returns_5 : (t : ℕ) → group-lts.Need-returns-5 (group_calls t) (group_at t) group.Post
-returns_5 t c = search group-set
+returns_5 t c = search group_set

@@ -2,7 +2,7 @@ use Prim.Native.Nat.{ℕ}
 use Rattle.reader.proofs.postfix.Reads as postfix
 use Rattle.reader.proofs.+args_arms_attr_attrs_call_child_children_choice_cond_content_either_elem_expr_frag_group_held_in_attr_in_held_in_rest_in_tag_joins_lone_more_named_postfix_prefix_prim_spread_tail_tails_unary_value.Lts-postfix as postfix-lts
 use Rattle.reader.proofs.+args_arms_attr_attrs_call_child_children_choice_cond_content_either_elem_expr_frag_group_held_in_attr_in_held_in_rest_in_tag_joins_lone_more_named_postfix_prefix_prim_spread_tail_tails_unary_value.Proof.Setup.{postfix_calls, postfix_at}
-use Rattle.reader.proofs.Sets.{asked, postfix-set}
+use Rattle.reader.proofs.Sets.{asked, postfix_set}
 
 pub prim_requires : (t : ℕ) → postfix-lts.Need-prim-requires (postfix_calls t) (postfix_at t) postfix.Post
 prim_requires t c κs = search asked
@@ -17,7 +17,7 @@ pub same_length : (t : ℕ) → postfix-lts.Need-same-length (postfix_calls t) (
 same_length t c = search asked
 
 pub returns : (t : ℕ) → postfix-lts.Need-returns (postfix_calls t) (postfix_at t) postfix.Post
-returns t c = search postfix-set
+returns t c = search postfix_set
 
 pub mul_start : (t : ℕ) → postfix-lts.Need-overflow-mul-start (postfix_calls t) (postfix_at t) postfix.Post
 mul_start t c = search asked
@@ -53,7 +53,7 @@ pub same_length_2 : (t : ℕ) → postfix-lts.Need-same-length-2 (postfix_calls 
 same_length_2 t c = search asked
 
 pub returns_2 : (t : ℕ) → postfix-lts.Need-returns-2 (postfix_calls t) (postfix_at t) postfix.Post
-returns_2 t c = search postfix-set
+returns_2 t c = search postfix_set
 
 pub add_t15 : (t : ℕ) → postfix-lts.Need-overflow-add-t15 (postfix_calls t) (postfix_at t) postfix.Post
 add_t15 t c = search asked
@@ -62,4 +62,4 @@ pub same_length_3 : (t : ℕ) → postfix-lts.Need-same-length-3 (postfix_calls 
 same_length_3 t c = search asked
 
 pub returns_3 : (t : ℕ) → postfix-lts.Need-returns-3 (postfix_calls t) (postfix_at t) postfix.Post
-returns_3 t c = search postfix-set
+returns_3 t c = search postfix_set
