@@ -1,6 +1,8 @@
 // The calls for C and Rust, over `stage` and `settings`. A slice is a pointer and a length; a reply is its number, 0
 // where the input is accepted, with its values in four words that the caller lends; limits are two words, the depth and
 // the bytes. No call asks anything of its caller but that what it lends is there.
+#![tactic(auto)]
+
 ghost use Rattle.std.specs.Prelude.{◌≡◌};
 ghost use Rattle.jsx.specs.Reading.{standard, stage as stageRule, run as runRule};
 ghost use Rattle.jsx.specs.Table.{span_part, record_part};

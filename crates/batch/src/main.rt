@@ -1,5 +1,7 @@
 // Answers many stages and runs from one standard input, for night runs: `many` says what an item is, and its answer.
 // The input here is the oracle's corpus.
+#![tactic(auto)]
+
 use many::TEXT;
 
 fn main() {

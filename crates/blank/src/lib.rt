@@ -1,4 +1,6 @@
 // Blanks and comments. Chapter 'Bytes, blanks, comments' of document 01, with request 1 of document 02.
+#![tactic(auto)]
+
 ghost use Rattle.std.specs.Prelude.{◌≡◌, ◌+◌, ◌<◌, ◌≤◌, length};
 ghost use Rattle.rules.specs.Parse.{code_at};
 ghost use Rattle.jsx.specs.Byte.{is, ◌or◌, ◌‥◌};

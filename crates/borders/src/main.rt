@@ -1,5 +1,7 @@
 // The same program as `batch`, run on another list, the borders of the ranges of name characters: `many` says what an
 // item is, and its answer.
+#![tactic(auto)]
+
 use many::TEXT;
 
 fn main() {

@@ -1,4 +1,6 @@
 // Characters by their codes, from the bytes as they stand: nothing here asks for well-formed UTF-8.
+#![tactic(auto)]
+
 ghost use Rattle.std.specs.Prelude.{◌≡◌, ◌^◌, ◌<◌, ◌≤◌, length};
 ghost use Rattle.rules.specs.Parse.{code_on, code_at};
 ghost use Rattle.character.specs.Width.{width_of};

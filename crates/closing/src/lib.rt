@@ -1,5 +1,7 @@
 // Closing tags, with the verdict on them: one that repeats a one-part name byte for byte, or one that is read part by
 // part and compared.
+#![tactic(auto)]
+
 ghost use Rattle.std.specs.Prelude.{◌≡◌, ◌+◌, ◌-◌, ◌<◌, ◌≤◌, length};
 ghost use Rattle.jsx.specs.Closing.{no_name};
 ghost use Rattle.lex.specs.Contract.{Leaf, nothing};

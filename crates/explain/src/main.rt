@@ -1,5 +1,7 @@
 // Reads a stage from standard input and tells what refuses it, where, with the source under it; or prints the tree of its
 // records. Up to 1,048,576 bytes and 131,072 records.
+#![tactic(auto)]
+
 use libc::STDIN_FILENO;
 
 fn main() {

@@ -1,5 +1,7 @@
 // What `explain` tells of some stages: each refusal, places on several lines, tabs, wide characters, names
 // beyond ASCII, long lines, trees.
+#![tactic(auto)]
+
 use libc::STDOUT_FILENO;
 use table::ROW_WORDS;
 

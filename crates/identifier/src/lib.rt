@@ -1,4 +1,6 @@
 // Which characters beyond ASCII names are made of, by their codes: ID_Start and ID_Continue of Unicode.
+#![tactic(auto)]
+
 ghost use Rattle.std.specs.Prelude.{◌≡◌, true};
 ghost use Rattle.jsx.specs.Byte.{is, ◌or◌};
 ghost use Rattle.jsx.specs.Ranges.{start_ranges, continue_ranges};

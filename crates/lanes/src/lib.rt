@@ -1,4 +1,6 @@
 // Eight bytes at once: they stand as the lanes of one word, the first byte in the lowest lane. (Request 2.)
+#![tactic(auto)]
+
 ghost use Rattle.std.specs.Prelude.{◌≡◌, ◌+◌, ◌/◌, ◌≤◌, ◌<◌, length};
 ghost use Rattle.std.specs.Int.Count.{count_trailing_zeros};
 ghost use Rattle.lanes.specs.Lanes.{word_of, Marked, Cleared, beyond, only, any_of};

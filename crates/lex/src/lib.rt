@@ -1,4 +1,6 @@
 // The ground of the leaves: an answer, a byte, and the tests for one, two or more bytes.
+#![tactic(auto)]
+
 ghost use Rattle.std.specs.Prelude.{◌≡◌, [], ◌∷◌, ◌+◌, ◌^◌, ◌<◌, ◌≤◌, length};
 ghost use Rattle.rules.specs.Parse.{byte_at, opens};
 ghost use Rattle.jsx.specs.Byte.{◌‥◌, need};

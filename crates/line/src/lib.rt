@@ -1,5 +1,7 @@
 // A printed line for a person: bytes put into it where they fit, a window of the source, and the marks under it. The
 // contracts say that a line stays within its buffer; what it shows is told by examples (crate `explained`).
+#![tactic(auto)]
+
 ghost use Rattle.std.specs.Prelude.{◌+◌, ◌≤◌, ◌<◌, ◌^◌, length};
 
 use lex::bytes::{CR, LF, TAB};

@@ -1,5 +1,7 @@
 // Reads a stage from standard input and prints its records, or its refusal (document 01, 'The table'). What it prints
 // for the bytes that it has read is `print::program_text`; no contract can say which bytes are read and written.
+#![tactic(auto)]
+
 use libc::{STDIN_FILENO, STDOUT_FILENO};
 use print::PROGRAM_TEXT;
 

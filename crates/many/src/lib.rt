@@ -5,6 +5,8 @@
 // `set DEPTH LENGTH`, or by its refusal, and the items behind it are read with the limits that hold then: its own, or
 // document 01's. A wrong first byte, a store of more than 1,048,576 bytes, or an input that ends inside an item, is
 // `bad item K`, counted from 0, and ends the batch.
+#![tactic(auto)]
+
 ghost use Rattle.std.specs.Prelude.{◌*◌, ◌≤◌, ◌<◌, ◌^◌, length, ◌≡◌};
 ghost use Rattle.rules.specs.Record.{row_words};
 ghost use Rattle.jsx.specs.Settings.{settings, held, capped};

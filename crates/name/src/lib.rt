@@ -1,4 +1,6 @@
 // Names of elements and attributes, with their records. A reader's number is how many records it has made.
+#![tactic(auto)]
+
 ghost use Rattle.std.specs.Prelude.{◌≡◌, ◌-◌, ◌<◌, ◌≤◌, length};
 ghost use Rattle.rules.specs.Forest.{node};
 ghost use Rattle.rules.specs.Rule.{many, ◌⨾◌};

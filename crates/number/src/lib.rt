@@ -1,4 +1,6 @@
 // Numbers inside braces.
+#![tactic(auto)]
+
 ghost use Rattle.std.specs.Prelude.{◌≡◌, true, ◌≤◌, length};
 ghost use Rattle.rules.specs.Parse.{byte_at, pick};
 ghost use Rattle.jsx.specs.Refusal.{unexpected};

@@ -1,4 +1,6 @@
 // The bytes of a record and of a span: the part of the caller's input itself. Chapter 'The table'.
+#![tactic(auto)]
+
 ghost use Rattle.jsx.specs.Table.{no_part, span_part, record_part};
 ghost use Rattle.part.specs.Contract.{Answered};
 

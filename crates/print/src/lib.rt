@@ -1,4 +1,6 @@
 // What the program prints of an answer, and its whole output, made in a buffer that the caller lends. Chapter 'The table'.
+#![tactic(auto)]
+
 ghost use Rattle.std.specs.Prelude.{◌≤◌, ◌<◌, ◌^◌, length};
 ghost use Rattle.jsx.specs.Program.{printed, output};
 ghost use Rattle.stage.specs.Call.{outcome, Numbered};

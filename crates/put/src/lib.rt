@@ -1,5 +1,7 @@
 // What the programs print, piece by piece, put into a buffer that the caller lends: numbers, fields, rows, first lines.
 // Chapter 'The table'. Each writer puts its text from the place `at` on, where it fits, and gives the place behind it.
+#![tactic(auto)]
+
 ghost use Rattle.std.specs.Prelude.{[], ◌∷◌, ◌++◌, ◌+◌, ◌*◌, ◌<◌, ◌^◌};
 ghost use Rattle.jsx.specs.Program.{decimal_up_to, decimal, field, parent_field, row_line, row_lines};
 ghost use Rattle.put.specs.Text.{Prints, field_at, span_fields, tree_fields, row_bytes, ok_line, no_line, set_line};

@@ -1,5 +1,7 @@
 // The readers that call each other: expressions hold elements, elements hold attributes and children, and these hold
 // expressions. `d` is how many levels of depth may still be entered; a reader's number is how many records it has made.
+#![tactic(auto)]
+
 ghost use Rattle.std.specs.Prelude.{◌≡◌, ◌+◌, ◌≤◌, ◌<◌, ◌^◌, length};
 ghost use Rattle.rules.specs.Rule.{many, ◌⨾◌};
 ghost use Rattle.rules.specs.Parse.{byte_at};

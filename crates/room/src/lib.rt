@@ -1,4 +1,6 @@
 // Room that the programs lend: an input of any allowed length, and a table.
+#![tactic(auto)]
+
 ghost use Rattle.std.specs.Prelude.{◌≡◌, ◌*◌, length};
 ghost use Rattle.rules.specs.Record.{row_words};
 

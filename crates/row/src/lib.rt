@@ -1,5 +1,7 @@
 // Rows that readers of the cycle write and that need none of them: a row by its kind, an opening tag's, those of a text
 // and of empty braces; and the ends of an element and of a fragment, with their records.
+#![tactic(auto)]
+
 ghost use Rattle.std.specs.Prelude.{◌≡◌, true, ◌-◌, ◌<◌, ◌≤◌, ◌^◌};
 ghost use Rattle.rules.specs.Parse.{byte_at};
 ghost use Rattle.rules.specs.Record.{row_words};

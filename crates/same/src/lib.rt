@@ -1,4 +1,6 @@
 // Whether two names that were read are equal.
+#![tactic(auto)]
+
 ghost use Rattle.std.specs.Prelude.{◌≡◌, ◌-◌, ◌≤◌, length};
 ghost use Rattle.rules.specs.Parse.{read_at};
 ghost use Rattle.jsx.specs.Blank.{blanks};

@@ -1,4 +1,6 @@
 // A settings store, and the limits that it sets; limits that are given to a reading. Document 02, request 14.
+#![tactic(auto)]
+
 ghost use Rattle.std.specs.Prelude.{◌≡◌, ◌<◌, ◌^◌, length, drop};
 ghost use Rattle.rules.specs.Parse.{byte_at};
 ghost use Rattle.jsx.specs.Reading.{standard as standardLimits};

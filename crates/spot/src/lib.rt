@@ -1,4 +1,6 @@
 // Where a place stands for a person: its line and its column, both from 1, and where its line begins and ends.
+#![tactic(auto)]
+
 ghost use Rattle.std.specs.Prelude.{◌≡◌, ◌+◌, ◌≤◌, ◌<◌, ◌^◌, length};
 ghost use Rattle.spot.specs.Spot.{ends_line, continues as inCharacter, spot_at, LineEnd};
 

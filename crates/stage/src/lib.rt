@@ -1,6 +1,8 @@
 // The public calls: check and read of a stage and of a run, with document 01's limits or with others, and the bytes of
 // a record and of a span. Chapters 'The two readings', 'Refusal numbers' and 'The table'. No call asks anything of its
 // caller.
+#![tactic(auto)]
+
 ghost use Rattle.std.specs.Prelude.{◌≡◌, ◌≤◌, length};
 ghost use Rattle.jsx.specs.Reading.{standard, stage, run};
 ghost use Rattle.jsx.specs.Settings.{capped};

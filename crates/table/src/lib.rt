@@ -1,5 +1,7 @@
 // The record table: where a reader stands in it, and rows stored into a part that is lent.
 // Chapter 'The table'.
+#![tactic(auto)]
+
 ghost use Rattle.std.specs.Prelude.{◌≡◌, [], ◌∷◌, ◌+◌, ◌≤◌, ◌<◌, ◌^◌, length, get_or};
 ghost use Rattle.rules.specs.Record.{row_words};
 ghost use Rattle.table.specs.Slot.{seat, seat_inside, seat_behind};
@@ -31,7 +33,7 @@ const LEVEL: usize = 4_294_967_296;
 
 // Where a reader stands in the table: the number of its next record plus LEVEL for each record that it stands in; and the
 // innermost of those. So two words travel through each call of a reader, and not three.
-#[derive(Drop)]
+#[derive(Clone, Copy)]
 pub struct Slot {
     pub here: usize,
     pub parent: usize,

@@ -1,5 +1,7 @@
 // What the readers of tags share and needs none of them: a byte with blanks, a tag's end, a quoted value, and what may
 // not stand behind an element.
+#![tactic(auto)]
+
 ghost use Rattle.std.specs.Prelude.{◌≡◌, true, ◌<◌, ◌≤◌, length};
 ghost use Rattle.rules.specs.Parse.{byte_at};
 ghost use Rattle.jsx.specs.Byte.{quote};

@@ -1,5 +1,7 @@
 // Refusals and tables in words, for people: a refusal with its line, its column and the source under it; an accepted
 // stage as a tree of its records. Where a place stands is proved (`spot`); the words are told by examples (`explained`).
+#![tactic(auto)]
+
 ghost use Rattle.std.specs.Prelude.{◌≤◌, ◌<◌, length};
 
 use settings::MOST_BYTES;

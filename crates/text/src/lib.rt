@@ -1,4 +1,6 @@
 // Texts, quoted attribute strings, and strings inside braces.
+#![tactic(auto)]
+
 ghost use Rattle.std.specs.Prelude.{◌≡◌, true, ◌≤◌, length};
 ghost use Rattle.rules.specs.Parse.{byte_at};
 ghost use Rattle.jsx.specs.Byte.{line_end, quote};

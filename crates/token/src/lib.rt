@@ -1,5 +1,7 @@
 // What stands between two readers of the cycle and needs none of them: an operator, a comma,
 // and the like, each with the blanks around it.
+#![tactic(auto)]
+
 ghost use Rattle.std.specs.Prelude.{◌≡◌, ◌<◌, ◌≤◌, length};
 ghost use Rattle.rules.specs.Parse.{byte_at};
 ghost use Rattle.jsx.specs.Blank.{pass};

@@ -161,7 +161,7 @@ module _ (s : List ℕ) (p : ℕ) {b : ℕ} (i : p < length s) (y : byte_at s p 
                     passes₂,
                     next p 2,
                     eq-eqb n 4 last,
-                    bad s _ p (p + 3) 0x80 0xBF (sym w₃ ∙ not-true t₃ x₃),
+                    bad s (suc (length s)) p (p + 3) 0x80 0xBF (sym w₃ ∙ not-true t₃ x₃),
                   ))
 
               -- Four bytes.
@@ -183,7 +183,7 @@ module _ (s : List ℕ) (p : ℕ) {b : ℕ} (i : p < length s) (y : byte_at s p 
                     passes₂,
                     next p 2,
                     eq-eqb n 4 last,
-                    good s _ p (p + 3) 0x80 0xBF (lit< tt) z,
+                    good s (suc (length s)) p (p + 3) 0x80 0xBF (lit< tt) z,
                     next p 3,
                   ))
 

@@ -1,4 +1,6 @@
 // The UTF-8 test of document 01: each byte is looked at once, sixteen and eight at once where all are below 80 hex.
+#![tactic(auto)]
+
 ghost use Rattle.std.specs.Prelude.{◌≡◌, ◌<◌, length};
 ghost use Rattle.rules.specs.Parse.{byte_at};
 ghost use Rattle.jsx.specs.Byte.{◌‥◌};

@@ -1,4 +1,6 @@
 // Names: tests of their bytes and characters, their parts, and names inside braces.
+#![tactic(auto)]
+
 ghost use Rattle.std.specs.Prelude.{◌≡◌, true, ◌-◌, ◌≤◌, length};
 ghost use Rattle.rules.specs.Parse.{byte_at, code_at};
 ghost use Rattle.jsx.specs.Byte.{letter, digit};

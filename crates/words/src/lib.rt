@@ -1,5 +1,7 @@
 // The words that people read: of a refusal, by its number, and of a record, by its kind; each put into a line where it
 // fits (`line`).
+#![tactic(auto)]
+
 ghost use Rattle.std.specs.Prelude.{◌≤◌, length};
 
 use lex::refusal::{TABLE_TOO_SMALL, UNEXPECTED};

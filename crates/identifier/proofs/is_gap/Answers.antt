@@ -1,0 +1,38 @@
+use Rattle.identifier.specs.Script.{gap}
+use Rattle.lex.proofs.TestSteps.{test_steps}
+use Rattle.identifier.proofs.is_gap.Goals as goal
+
+pub within-requires : goal.within-requires
+within-requires c = search test_steps
+
+pub within-requires-else-within : goal.within-requires-else-within
+within-requires-else-within c = search test_steps
+
+pub within-requires-else-within-2 : goal.within-requires-else-within-2
+within-requires-else-within-2 c = search test_steps
+
+pub within-requires-else-within-3 : goal.within-requires-else-within-3
+within-requires-else-within-3 c = search test_steps
+
+pub within-requires-else-within-4 : goal.within-requires-else-within-4
+within-requires-else-within-4 c = search test_steps
+
+pub returns-then-within : goal.returns-then-within
+unfolding gap
+returns-then-within c = search test_steps
+
+pub returns-then-within-2 : goal.returns-then-within-2
+unfolding gap
+returns-then-within-2 c = search test_steps
+
+pub returns-then-within-3 : goal.returns-then-within-3
+unfolding gap
+returns-then-within-3 c = search test_steps
+
+pub returns-then-within-4 : goal.returns-then-within-4
+unfolding gap
+returns-then-within-4 c = search test_steps
+
+pub returns-else-within-4 : goal.returns-else-within-4
+unfolding gap
+returns-else-within-4 c = search test_steps

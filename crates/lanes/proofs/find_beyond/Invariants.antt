@@ -1,0 +1,11 @@
+use Prim.Native.Nat.{◌-◌}
+use lib.ListN.{length}
+use Rattle.lanes.specs.Lanes.{beyond}
+use Rattle.lanes.specs.First.{Clear}
+use Rattle.lanes.proofs.find_beyond.Given as goal
+
+abbrev pub invariant-loop-p : goal.invariant-loop-p
+invariant-loop-p l = Clear beyond l.s l.at l.p
+
+abbrev pub decreases-loop-p : goal.decreases-loop-p
+decreases-loop-p l = length l.s - l.p

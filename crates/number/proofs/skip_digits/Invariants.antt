@@ -1,0 +1,12 @@
+use Prim.Native.Nat.{◌+◌, ◌-◌}
+use lib.ListN.{length}
+use Rattle.rules.specs.Rule.{stop, step, when}
+use Rattle.jsx.specs.Byte.{digit}
+use Rattle.lex.proofs.Turns.{Turns}
+use Rattle.number.proofs.skip_digits.Given as goal
+
+abbrev pub invariant-loop-p : goal.invariant-loop-p
+invariant-loop-p l = Turns l.s (when digit step stop) 0 (l.at + 1) l.p
+
+abbrev pub decreases-loop-p : goal.decreases-loop-p
+decreases-loop-p l = length l.s - l.p

@@ -1,0 +1,5 @@
+use Rattle.table.proofs.Seats.{seat_steps}
+use Rattle.table.proofs.Slot.depth.Goals as goal
+
+pub returns : goal.returns
+returns c = search seat_steps
