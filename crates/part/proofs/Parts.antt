@@ -9,7 +9,8 @@ use lib.ListN.{length, get_or}
 use lib.Dec.{leb, ltb}
 use borrow.Author.Tests.{le-leb, lt-leb, lt-ltb, le-ltb}
 use borrow.Author.Rules.{rules}
-use borrow.Rule.Slice.PartAt.{sl_part}
+use borrow.Rule.Slice.PartAt.{sl_partˢ}
+use borrow.Rule.Slice.Shared.{by_byte}
 use denote.Ref.{Bor}
 use Rattle.rules.specs.Parse.{pick}
 use Rattle.rules.specs.Record.{row_words}
@@ -61,9 +62,9 @@ answered_as : {s r : Bor (List ℕ)} {p q : Part} {f : Bool} → Answered s p r 
 answered_as {s} {r} {p} {q} {f} h e = subst (λ (p : Part). Answered s p r f) (sym e) h
 
 -- The empty part at the start.
-pub answers_none : (s : Bor (List ℕ)) (g : ℕ) → Answered s no_part (sl_part s (0 + s.ref_ptr.1) 0 0 g) false
+pub answers_none : (s : Bor (List ℕ)) → Answered s no_part (sl_partˢ s (by_byte 0 s.ref_ptr.1) 0 0) false
 unfolding no_part bytes_in
-answers_none s g =
+answers_none s =
     record { tells = refl; bytes = refl; place = ap (λ (n : ℕ). (s.ref_ptr.0, n)) (add_comm 0 s.ref_ptr.1) }
 
 module _ (s : Bor (List ℕ)) (a z : ℕ) where
@@ -78,12 +79,12 @@ module _ (s : Bor (List ℕ)) (a z : ℕ) where
   answers_past h l k = answered_as k (span_past s.now a z h l)
 
   -- Any other span is answered by that part of the input, and by yes.
-  pub answers_part : (g : ℕ) → a ≤ z → z ≤ length s.now
-      → Answered s (span_part s.now a z) (sl_part s (a + s.ref_ptr.1) a z g) true
+  pub answers_part : a ≤ z → z ≤ length s.now
+      → Answered s (span_part s.now a z) (sl_partˢ s (by_byte a s.ref_ptr.1) a z) true
   unfolding bytes_in
-  answers_part g h l =
+  answers_part h l =
       answered_as
-      (record { tells = refl; bytes = refl; place = ap (λ (n : ℕ). (s.ptr.0, n)) (add_comm a s.ptr.1) })
+      (record { tells = refl; bytes = refl; place = ap (λ (n : ℕ). (s.ref_ptr.0, n)) (add_comm a s.ref_ptr.1) })
       (span_is s.now a z h l)
 
 module _ (s : Bor (List ℕ)) (t : List ℕ) (m k : ℕ) {r : Bor (List ℕ)} {f : Bool} where

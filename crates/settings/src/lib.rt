@@ -32,14 +32,14 @@ const LENGTH_KIND: u32 = 2;
 const SKIPPED_FROM: u32 = 128;
 
 // The limits of a reading.
-#[derive(Drop)]
+#[derive(Clone, Copy)]
 pub struct Limits {
     pub depth: usize,
     pub bytes: usize,
 }
 
 // What a store is answered.
-#[derive(Drop)]
+#[derive(Clone, Copy)]
 pub enum Settled {
     Set(Limits),
     // A refusal's number and place, start and end. Document 01's limits hold then.
