@@ -17,7 +17,7 @@ use lex::refusal::{ELEMENT_CLOSED_BY_FRAGMENT, FRAGMENT_CLOSED_BY_NAME, NAMES_DI
 use table::{Node, ROW_WORDS, Slot};
 
 // The name of an opening tag that begins at `at`: from `start` to `end`, in `count` records.
-#[derive(Drop)]
+#[derive(Clone, Copy)]
 pub struct Opened {
     pub at: usize,
     pub start: usize,

@@ -33,7 +33,7 @@ pub ruleset lone_set = (rules, L.lone_steps)
 
 pub ruleset unary_set = (rules, E.unary_steps)
 
-pub ruleset Joins_set = (rules, S.loop_steps, C.joins_loops, C.joins_turns)
+pub ruleset joins_set = (rules, S.loop_steps, C.joins_loops, C.joins_turns)
 
 pub ruleset either_set = (rules, S.two_steps, C.either_splits, C.either_begins)
 
@@ -69,7 +69,7 @@ pub ruleset in_tag_set = (rules, T.in_tag_steps)
 
 pub ruleset content_set = (rules, T.content_steps)
 
-pub ruleset Named_set = (rules, T.named_steps)
+pub ruleset named_set = (rules, T.named_steps)
 
 pub ruleset fragment_set = (rules, T.fragment_steps)
 

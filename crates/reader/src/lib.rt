@@ -53,7 +53,7 @@ fn plain(r: Tagged) -> Ans
 // ---- expressions
 
 // `(conditional)` or `[conditional]`, by the byte that closes it.
-#[cycle(args_arms_attr_attrs_call_child_children_choice_cond_content_either_elem_expr_frag_group_held_in_attr_in_held_in_rest_in_tag_joins_lone_more_named_postfix_prefix_prim_spread_tail_tails_unary_value)]
+#[cycle(reading)]
 fn group(t: &mut [u32], s: &[u8], at: usize, close: u32, d: usize, slot: Slot) -> Ans
     requires { Room 3 s.now at (seat slot) × (at < length s.now) × (close < 256) }
     ensures { Made result s.now (group_by close d) at 1 (seat slot) 0 t.old t.new }
@@ -77,7 +77,7 @@ fn group(t: &mut [u32], s: &[u8], at: usize, close: u32, d: usize, slot: Slot) -
 }
 
 // A call: its parenthesis, and nothing or conditionals in it.
-#[cycle(args_arms_attr_attrs_call_child_children_choice_cond_content_either_elem_expr_frag_group_held_in_attr_in_held_in_rest_in_tag_joins_lone_more_named_postfix_prefix_prim_spread_tail_tails_unary_value)]
+#[cycle(reading)]
 fn call(t: &mut [u32], s: &[u8], at: usize, d: usize, slot: Slot) -> Ans
     requires { Room 3 s.now at (seat slot) × (at < length s.now) }
     ensures { Made result s.now (within d).call at 1 (seat slot) 0 t.old t.new }
@@ -96,7 +96,7 @@ fn call(t: &mut [u32], s: &[u8], at: usize, d: usize, slot: Slot) -> Ans
 }
 
 // One or more conditionals with commas between them, and `)`.
-#[cycle(args_arms_attr_attrs_call_child_children_choice_cond_content_either_elem_expr_frag_group_held_in_attr_in_held_in_rest_in_tag_joins_lone_more_named_postfix_prefix_prim_spread_tail_tails_unary_value)]
+#[cycle(reading)]
 fn args(t: &mut [u32], s: &[u8], at: usize, d: usize, slot: Slot) -> Ans
     requires { Room 3 s.now at (seat slot) }
     ensures { Made result s.now (arguments (within d)) at 1 (seat slot) 0 t.old t.new }
@@ -118,7 +118,7 @@ fn args(t: &mut [u32], s: &[u8], at: usize, d: usize, slot: Slot) -> Ans
 }
 
 // Conditionals behind the first of a call, each behind a comma, as many as there are.
-#[cycle(args_arms_attr_attrs_call_child_children_choice_cond_content_either_elem_expr_frag_group_held_in_attr_in_held_in_rest_in_tag_joins_lone_more_named_postfix_prefix_prim_spread_tail_tails_unary_value)]
+#[cycle(reading)]
 fn more(t: &mut [u32], s: &[u8], at: usize, d: usize, slot: Slot) -> Ans
     requires { Room 3 s.now at (seat slot) }
     ensures { Made result s.now (many (argument_turn (within d))) at 0 (seat slot) 0
@@ -145,7 +145,7 @@ fn more(t: &mut [u32], s: &[u8], at: usize, d: usize, slot: Slot) -> Ans
 }
 
 // A name, a number, a string or `(conditional)`.
-#[cycle(args_arms_attr_attrs_call_child_children_choice_cond_content_either_elem_expr_frag_group_held_in_attr_in_held_in_rest_in_tag_joins_lone_more_named_postfix_prefix_prim_spread_tail_tails_unary_value)]
+#[cycle(reading)]
 fn prim(t: &mut [u32], s: &[u8], at: usize, d: usize, slot: Slot) -> Ans
     requires { Room 3 s.now at (seat slot) }
     ensures { Made result s.now (primaryRule (within d)) at 1 (seat slot) 0 t.old t.new }
@@ -167,7 +167,7 @@ fn prim(t: &mut [u32], s: &[u8], at: usize, d: usize, slot: Slot) -> Ans
 }
 
 // `.name`, `[conditional]` or a call.
-#[cycle(args_arms_attr_attrs_call_child_children_choice_cond_content_either_elem_expr_frag_group_held_in_attr_in_held_in_rest_in_tag_joins_lone_more_named_postfix_prefix_prim_spread_tail_tails_unary_value)]
+#[cycle(reading)]
 fn tail(t: &mut [u32], s: &[u8], at: usize, d: usize, slot: Slot) -> Ans
     requires { Room 3 s.now at (seat slot) }
     ensures { Made result s.now (tail_of (within d)) at 1 (seat slot) 0 t.old t.new }
@@ -186,7 +186,7 @@ fn tail(t: &mut [u32], s: &[u8], at: usize, d: usize, slot: Slot) -> Ans
 }
 
 // What stands behind a primary: `.name`, `[conditional]` and calls, as many as there are.
-#[cycle(args_arms_attr_attrs_call_child_children_choice_cond_content_either_elem_expr_frag_group_held_in_attr_in_held_in_rest_in_tag_joins_lone_more_named_postfix_prefix_prim_spread_tail_tails_unary_value)]
+#[cycle(reading)]
 fn tails(t: &mut [u32], s: &[u8], at: usize, d: usize, slot: Slot) -> Ans
     requires { Room 3 s.now at (seat slot) }
     ensures { Made result s.now (many (postfix_turn (within d))) at 0 (seat slot) 0
@@ -213,7 +213,7 @@ fn tails(t: &mut [u32], s: &[u8], at: usize, d: usize, slot: Slot) -> Ans
 }
 
 // A primary and what stands behind it.
-#[cycle(args_arms_attr_attrs_call_child_children_choice_cond_content_either_elem_expr_frag_group_held_in_attr_in_held_in_rest_in_tag_joins_lone_more_named_postfix_prefix_prim_spread_tail_tails_unary_value)]
+#[cycle(reading)]
 fn postfix(t: &mut [u32], s: &[u8], at: usize, d: usize, slot: Slot) -> Ans
     requires { Room 3 s.now at (seat slot) }
     ensures { Made result s.now (postfixRule (within d)) at 1 (seat slot) 0 t.old t.new }
@@ -231,7 +231,7 @@ fn postfix(t: &mut [u32], s: &[u8], at: usize, d: usize, slot: Slot) -> Ans
 }
 
 // `!` or `-` and its operand.
-#[cycle(args_arms_attr_attrs_call_child_children_choice_cond_content_either_elem_expr_frag_group_held_in_attr_in_held_in_rest_in_tag_joins_lone_more_named_postfix_prefix_prim_spread_tail_tails_unary_value)]
+#[cycle(reading)]
 fn prefix(t: &mut [u32], s: &[u8], at: usize, d: usize, slot: Slot) -> Ans
     requires { Room 3 s.now at (seat slot) × (at < length s.now) }
     ensures { Made result s.now (within d).prefix at 1 (seat slot) 0 t.old t.new }
@@ -247,7 +247,7 @@ fn prefix(t: &mut [u32], s: &[u8], at: usize, d: usize, slot: Slot) -> Ans
 }
 
 // An element or a fragment that is no child, and nothing behind it that n or 12 refuses.
-#[cycle(args_arms_attr_attrs_call_child_children_choice_cond_content_either_elem_expr_frag_group_held_in_attr_in_held_in_rest_in_tag_joins_lone_more_named_postfix_prefix_prim_spread_tail_tails_unary_value)]
+#[cycle(reading)]
 fn lone(t: &mut [u32], s: &[u8], at: usize, n: u32, d: usize, slot: Slot) -> Ans
     requires { Room 3 s.now at (seat slot) × (at < length s.now) }
     ensures { Made result s.now ((within d).element ⨾ no_sibling n) at 1 (seat slot) 0
@@ -269,7 +269,7 @@ fn lone(t: &mut [u32], s: &[u8], at: usize, n: u32, d: usize, slot: Slot) -> Ans
 }
 
 // `!` or `-` before a unary, an element or a fragment, or a postfix.
-#[cycle(args_arms_attr_attrs_call_child_children_choice_cond_content_either_elem_expr_frag_group_held_in_attr_in_held_in_rest_in_tag_joins_lone_more_named_postfix_prefix_prim_spread_tail_tails_unary_value)]
+#[cycle(reading)]
 fn unary(t: &mut [u32], s: &[u8], at: usize, d: usize, slot: Slot) -> Ans
     requires { Room 3 s.now at (seat slot) }
     ensures { Made result s.now (unaryRule (within d)) at 1 (seat slot) 0 t.old t.new }
@@ -291,7 +291,7 @@ fn unary(t: &mut [u32], s: &[u8], at: usize, d: usize, slot: Slot) -> Ans
 }
 
 // Unaries behind the first, each behind an operator, as many as there are.
-#[cycle(args_arms_attr_attrs_call_child_children_choice_cond_content_either_elem_expr_frag_group_held_in_attr_in_held_in_rest_in_tag_joins_lone_more_named_postfix_prefix_prim_spread_tail_tails_unary_value)]
+#[cycle(reading)]
 fn joins(t: &mut [u32], s: &[u8], at: usize, d: usize, slot: Slot) -> Ans
     requires { Room 3 s.now at (seat slot) }
     ensures { Made result s.now (many (operand_turn (within d))) at 0 (seat slot) 0
@@ -318,7 +318,7 @@ fn joins(t: &mut [u32], s: &[u8], at: usize, d: usize, slot: Slot) -> Ans
 }
 
 // Unaries with operators between them: every level from `*` to `||`.
-#[cycle(args_arms_attr_attrs_call_child_children_choice_cond_content_either_elem_expr_frag_group_held_in_attr_in_held_in_rest_in_tag_joins_lone_more_named_postfix_prefix_prim_spread_tail_tails_unary_value)]
+#[cycle(reading)]
 fn either(t: &mut [u32], s: &[u8], at: usize, d: usize, slot: Slot) -> Ans
     requires { Room 3 s.now at (seat slot) }
     ensures { Made result s.now (eitherRule (within d)) at 1 (seat slot) 0 t.old t.new }
@@ -336,7 +336,7 @@ fn either(t: &mut [u32], s: &[u8], at: usize, d: usize, slot: Slot) -> Ans
 }
 
 // A conditional: an either, and a choice if a `?` stands behind it.
-#[cycle(args_arms_attr_attrs_call_child_children_choice_cond_content_either_elem_expr_frag_group_held_in_attr_in_held_in_rest_in_tag_joins_lone_more_named_postfix_prefix_prim_spread_tail_tails_unary_value)]
+#[cycle(reading)]
 fn cond(t: &mut [u32], s: &[u8], at: usize, d: usize, slot: Slot) -> Ans
     requires { Room 3 s.now at (seat slot) }
     ensures { Made result s.now (conditional (within d)) at 1 (seat slot) 0 t.old t.new }
@@ -361,7 +361,7 @@ fn cond(t: &mut [u32], s: &[u8], at: usize, d: usize, slot: Slot) -> Ans
 }
 
 // `?` conditional `:` conditional, whose `?` was seen; `?.` and `??` are refused.
-#[cycle(args_arms_attr_attrs_call_child_children_choice_cond_content_either_elem_expr_frag_group_held_in_attr_in_held_in_rest_in_tag_joins_lone_more_named_postfix_prefix_prim_spread_tail_tails_unary_value)]
+#[cycle(reading)]
 fn choice(t: &mut [u32], s: &[u8], at: usize, d: usize, slot: Slot) -> Ans
     requires { Room 3 s.now at (seat slot) × (at < length s.now) }
     ensures { Made result s.now (question (within d)) at 1 (seat slot) 0 t.old t.new }
@@ -383,7 +383,7 @@ fn choice(t: &mut [u32], s: &[u8], at: usize, d: usize, slot: Slot) -> Ans
 }
 
 // Conditional `:` conditional.
-#[cycle(args_arms_attr_attrs_call_child_children_choice_cond_content_either_elem_expr_frag_group_held_in_attr_in_held_in_rest_in_tag_joins_lone_more_named_postfix_prefix_prim_spread_tail_tails_unary_value)]
+#[cycle(reading)]
 fn arms(t: &mut [u32], s: &[u8], at: usize, d: usize, slot: Slot) -> Ans
     requires { Room 3 s.now at (seat slot) }
     ensures { Made result s.now (arms_of (within d)) at 1 (seat slot) 0 t.old t.new }
@@ -405,7 +405,7 @@ fn arms(t: &mut [u32], s: &[u8], at: usize, d: usize, slot: Slot) -> Ans
 }
 
 // An expression: a conditional and its record.
-#[cycle(args_arms_attr_attrs_call_child_children_choice_cond_content_either_elem_expr_frag_group_held_in_attr_in_held_in_rest_in_tag_joins_lone_more_named_postfix_prefix_prim_spread_tail_tails_unary_value)]
+#[cycle(reading)]
 fn expr(t: &mut [u32], s: &[u8], at: usize, d: usize, slot: Slot) -> Ans
     requires { Room 2 s.now at (seat slot) }
     ensures { Made result s.now (expression (within d)) at 1 (seat slot) 0 t.old t.new }
@@ -422,7 +422,7 @@ fn expr(t: &mut [u32], s: &[u8], at: usize, d: usize, slot: Slot) -> Ans
 // ---- braces, whose first byte is at `at`, with the blanks behind it up to q
 
 // An expression and `}`.
-#[cycle(args_arms_attr_attrs_call_child_children_choice_cond_content_either_elem_expr_frag_group_held_in_attr_in_held_in_rest_in_tag_joins_lone_more_named_postfix_prefix_prim_spread_tail_tails_unary_value)]
+#[cycle(reading)]
 fn in_held(t: &mut [u32], s: &[u8], at: usize, d: usize, slot: Slot) -> Ans
     requires { Room 2 s.now at (seat slot) }
     ensures { Made result s.now (in_container (within d)) at 2 (seat slot) 0 t.old t.new }
@@ -439,7 +439,7 @@ fn in_held(t: &mut [u32], s: &[u8], at: usize, d: usize, slot: Slot) -> Ans
 }
 
 // `{expression}` and its record.
-#[cycle(args_arms_attr_attrs_call_child_children_choice_cond_content_either_elem_expr_frag_group_held_in_attr_in_held_in_rest_in_tag_joins_lone_more_named_postfix_prefix_prim_spread_tail_tails_unary_value)]
+#[cycle(reading)]
 fn held(t: &mut [u32], s: &[u8], at: usize, q: usize, d: usize, slot: Slot) -> Ans
     requires { Room 3 s.now at (seat slot) × Past q s.now pass at 1 }
     ensures { Made result s.now (container (within d)) at 3 (seat slot) 0 t.old t.new }
@@ -454,7 +454,7 @@ fn held(t: &mut [u32], s: &[u8], at: usize, q: usize, d: usize, slot: Slot) -> A
 }
 
 // `...`, an expression and `}`.
-#[cycle(args_arms_attr_attrs_call_child_children_choice_cond_content_either_elem_expr_frag_group_held_in_attr_in_held_in_rest_in_tag_joins_lone_more_named_postfix_prefix_prim_spread_tail_tails_unary_value)]
+#[cycle(reading)]
 fn in_rest(t: &mut [u32], s: &[u8], at: usize, d: usize, slot: Slot) -> Ans
     requires { Room 2 s.now at (seat slot) }
     ensures { Made result s.now (in_spread (within d)) at 2 (seat slot) 0 t.old t.new }
@@ -475,7 +475,7 @@ fn in_rest(t: &mut [u32], s: &[u8], at: usize, d: usize, slot: Slot) -> Ans
 }
 
 // `{...expression}` and its record, of this kind.
-#[cycle(args_arms_attr_attrs_call_child_children_choice_cond_content_either_elem_expr_frag_group_held_in_attr_in_held_in_rest_in_tag_joins_lone_more_named_postfix_prefix_prim_spread_tail_tails_unary_value)]
+#[cycle(reading)]
 fn spread(t: &mut [u32], s: &[u8], at: usize, q: usize, kind: usize, d: usize, slot: Slot) -> Ans
     requires { Room 3 s.now at (seat slot) × Past q s.now pass at 1 × (kind < 2 ^ 32) }
     ensures { Made result s.now (spreadRule kind (within d)) at 3 (seat slot) 0
@@ -493,7 +493,7 @@ fn spread(t: &mut [u32], s: &[u8], at: usize, q: usize, kind: usize, d: usize, s
 // ---- attributes
 
 // A value: a quoted string, `{expression}`, an element or a fragment.
-#[cycle(args_arms_attr_attrs_call_child_children_choice_cond_content_either_elem_expr_frag_group_held_in_attr_in_held_in_rest_in_tag_joins_lone_more_named_postfix_prefix_prim_spread_tail_tails_unary_value)]
+#[cycle(reading)]
 fn value(t: &mut [u32], s: &[u8], at: usize, d: usize, slot: Slot) -> Ans
     requires { Room 3 s.now at (seat slot) }
     ensures { Made result s.now (valueRule (within d)) at 1 (seat slot) 0 t.old t.new }
@@ -522,7 +522,7 @@ fn value(t: &mut [u32], s: &[u8], at: usize, d: usize, slot: Slot) -> Ans
 }
 
 // A name, and a value if `=` stands behind it.
-#[cycle(args_arms_attr_attrs_call_child_children_choice_cond_content_either_elem_expr_frag_group_held_in_attr_in_held_in_rest_in_tag_joins_lone_more_named_postfix_prefix_prim_spread_tail_tails_unary_value)]
+#[cycle(reading)]
 fn in_attr(t: &mut [u32], s: &[u8], at: usize, d: usize, slot: Slot) -> Ans
     requires { Room 3 s.now at (seat slot) }
     ensures { Made result s.now (in_attribute (within d)) at 1 (seat slot) 0 t.old t.new }
@@ -547,7 +547,7 @@ fn in_attr(t: &mut [u32], s: &[u8], at: usize, d: usize, slot: Slot) -> Ans
 }
 
 // An attribute and its record: `{...expression}`, or a name and a value.
-#[cycle(args_arms_attr_attrs_call_child_children_choice_cond_content_either_elem_expr_frag_group_held_in_attr_in_held_in_rest_in_tag_joins_lone_more_named_postfix_prefix_prim_spread_tail_tails_unary_value)]
+#[cycle(reading)]
 fn attr(t: &mut [u32], s: &[u8], at: usize, d: usize, slot: Slot) -> Ans
     requires { Room 2 s.now at (seat slot) }
     ensures { Made result s.now (attribute (within d)) at 1 (seat slot) 0 t.old t.new }
@@ -572,7 +572,7 @@ fn attr(t: &mut [u32], s: &[u8], at: usize, d: usize, slot: Slot) -> Ans
 }
 
 // Attributes, as many as there are, up to `/` or `>`.
-#[cycle(args_arms_attr_attrs_call_child_children_choice_cond_content_either_elem_expr_frag_group_held_in_attr_in_held_in_rest_in_tag_joins_lone_more_named_postfix_prefix_prim_spread_tail_tails_unary_value)]
+#[cycle(reading)]
 fn attrs(t: &mut [u32], s: &[u8], at: usize, d: usize, slot: Slot) -> Ans
     requires { Room 2 s.now at (seat slot) }
     ensures { Made result s.now (attributes (within d)) at 0 (seat slot) 0 t.old t.new }
@@ -600,7 +600,7 @@ fn attrs(t: &mut [u32], s: &[u8], at: usize, d: usize, slot: Slot) -> Ans
 // ---- elements and fragments, whose first byte is at `at`, with the blanks behind it up to a
 
 // The inside of an opening tag from its name on: the name, attributes, and the tag's end.
-#[cycle(args_arms_attr_attrs_call_child_children_choice_cond_content_either_elem_expr_frag_group_held_in_attr_in_held_in_rest_in_tag_joins_lone_more_named_postfix_prefix_prim_spread_tail_tails_unary_value)]
+#[cycle(reading)]
 fn in_tag(t: &mut [u32], s: &[u8], a: usize, d: usize, slot: Slot) -> Tagged
     requires { Room 3 s.now a (seat slot) }
     ensures { TagMade result s.now (within d) a (seat slot) t.old t.new }
@@ -623,7 +623,7 @@ fn in_tag(t: &mut [u32], s: &[u8], a: usize, d: usize, slot: Slot) -> Tagged
 
 // The children and the closing tag of an element whose opening tag ends at p, with v records below the element so far;
 // then the element's record.
-#[cycle(args_arms_attr_attrs_call_child_children_choice_cond_content_either_elem_expr_frag_group_held_in_attr_in_held_in_rest_in_tag_joins_lone_more_named_postfix_prefix_prim_spread_tail_tails_unary_value)]
+#[cycle(reading)]
 fn content(t: &mut [u32], s: &[u8], name: Opened, p: usize, v: usize, d: usize, slot: Slot) -> Ans
     requires { Opening s.now name × Ready s.now name.at p v (seat slot) }
     ensures { Content result s.now (within d) name p v (seat slot) t.old t.new }
@@ -637,7 +637,7 @@ fn content(t: &mut [u32], s: &[u8], name: Opened, p: usize, v: usize, d: usize, 
 }
 
 // An element and its record, with d levels inside it.
-#[cycle(args_arms_attr_attrs_call_child_children_choice_cond_content_either_elem_expr_frag_group_held_in_attr_in_held_in_rest_in_tag_joins_lone_more_named_postfix_prefix_prim_spread_tail_tails_unary_value)]
+#[cycle(reading)]
 fn named(t: &mut [u32], s: &[u8], at: usize, a: usize, d: usize, slot: Slot) -> Ans
     requires { Room 3 s.now at (seat slot) × Past a s.now pass at 1 }
     ensures { Made result s.now (named_in d (within d)) at 1 (seat slot) 0 t.old t.new }
@@ -669,7 +669,7 @@ fn named(t: &mut [u32], s: &[u8], at: usize, a: usize, d: usize, slot: Slot) -> 
 }
 
 // A fragment and its record, with d levels inside it.
-#[cycle(args_arms_attr_attrs_call_child_children_choice_cond_content_either_elem_expr_frag_group_held_in_attr_in_held_in_rest_in_tag_joins_lone_more_named_postfix_prefix_prim_spread_tail_tails_unary_value)]
+#[cycle(reading)]
 fn frag(t: &mut [u32], s: &[u8], at: usize, a: usize, d: usize, slot: Slot) -> Ans
     requires { Room 3 s.now at (seat slot) × Past a s.now pass at 1 × (byte_at s.now a ≡ 62) }
     ensures { Made result s.now (fragment_in d (within d)) at 1 (seat slot) 0 t.old t.new }
@@ -684,7 +684,7 @@ fn frag(t: &mut [u32], s: &[u8], at: usize, a: usize, d: usize, slot: Slot) -> A
 }
 
 // An element or a fragment.
-#[cycle(args_arms_attr_attrs_call_child_children_choice_cond_content_either_elem_expr_frag_group_held_in_attr_in_held_in_rest_in_tag_joins_lone_more_named_postfix_prefix_prim_spread_tail_tails_unary_value)]
+#[cycle(reading)]
 fn elem(t: &mut [u32], s: &[u8], at: usize, a: usize, d: usize, slot: Slot) -> Ans
     requires { Room 3 s.now at (seat slot) × Past a s.now pass at 1 }
     ensures { Made result s.now (within d).element at 1 (seat slot) 0 t.old t.new }
@@ -699,7 +699,7 @@ fn elem(t: &mut [u32], s: &[u8], at: usize, a: usize, d: usize, slot: Slot) -> A
 }
 
 // One child; or it stays where it is, and the children end there.
-#[cycle(args_arms_attr_attrs_call_child_children_choice_cond_content_either_elem_expr_frag_group_held_in_attr_in_held_in_rest_in_tag_joins_lone_more_named_postfix_prefix_prim_spread_tail_tails_unary_value)]
+#[cycle(reading)]
 fn child(t: &mut [u32], s: &[u8], at: usize, d: usize, slot: Slot) -> Ans
     requires { Room 3 s.now at (seat slot) }
     ensures { ChildMade result s.now (within d) at (seat slot) t.old t.new }
@@ -742,7 +742,7 @@ fn child(t: &mut [u32], s: &[u8], at: usize, d: usize, slot: Slot) -> Ans
 }
 
 // Children, as many as there are, up to the end or a `<` that a `/` follows.
-#[cycle(args_arms_attr_attrs_call_child_children_choice_cond_content_either_elem_expr_frag_group_held_in_attr_in_held_in_rest_in_tag_joins_lone_more_named_postfix_prefix_prim_spread_tail_tails_unary_value)]
+#[cycle(reading)]
 fn children(t: &mut [u32], s: &[u8], at: usize, d: usize, slot: Slot) -> Ans
     requires { Room 3 s.now at (seat slot) }
     ensures { Made result s.now (childrenRule (within d)) at 0 (seat slot) 0 t.old t.new }
