@@ -1,23 +1,16 @@
 -- What each need of the calls follows from.
-use mathlib.Core.Path.{◌≡◌, refl, sym, ap, subst, ◌∙◌}
+use mathlib.Core.Path.{◌≡◌, refl, sym, subst}
 use mathlib.Core.Bool.{Bool, true, false}
 use mathlib.Core.List.{List, [], ◌∷◌}
 use Prim.Native.Nat.{ℕ, ◌*◌, ◌+◌, ◌/◌, ◌≤◌, ◌<◌}
 use lib.ListN.{length, get_or}
 use borrow.Author.Rules.{rules}
-use Rattle.rules.specs.Rule.{Rule}
 use Rattle.rules.specs.Record.{row_words}
 use Rattle.jsx.specs.Table.{Part, no_part, span_part, record_part}
-use Rattle.jsx.specs.Settings.{held, settings, capped}
 use Rattle.part.proofs.Parts.{span_turned, span_past, span_is, record_from_count, record_past, record_is}
-use Rattle.settings.specs.declared.Limits as Given
-use Rattle.settings.specs.declared.Settled as Store
-use Rattle.settings.specs.declared.Settled.TheVariants.{Set, Refused as Refused₁}
-use Rattle.settings.specs.Contract.{limits_of, settled_of}
 use Rattle.stage.specs.declared.Reply.{Reply}
 use Rattle.stage.specs.declared.Reply.TheVariants.{Accepted, Refused}
-use Rattle.stage.specs.Call.{Checks, Reads}
-use Rattle.abi.specs.Said.{Says, SaysOfCheck, SaysOfRead, limit_words, limits_in, SaysOfSettings, SaysPart}
+use Rattle.abi.specs.Said.{Says, SaysPart}
 
 -- ---- replies
 
@@ -37,44 +30,6 @@ pub say_refused : {x : Reply} {n a b c d n₁ a₁ b₁ c₁ d₁ : ℕ} → x �
 say_refused e en ea eb ec ed = rw (e, en, ea, eb, ec, ed) (record { number = refl; is = refl })
 
 pub ruleset say_steps = (rules, say_accepted, say_refused)
-
--- ---- limits
-
--- A check with the limits that two words say,
-pub within_check : (w : List ℕ) {l : Given.Limits} → limits_of l ≡ limits_in w
-    → {reading : ℕ → Rule} {s : List ℕ} {x : Reply} {r : ℕ} {values : List ℕ}
-    → Checks (capped (limits_of l)) reading s x
-    → Says x r values
-    → SaysOfCheck (capped (limits_in w)) reading s r values
-within_check w e v h = record { reply = _; right = rw (ap capped e) at v; says = h }
-
--- and a read.
-pub within_read : (w : List ℕ) {l : Given.Limits} → limits_of l ≡ limits_in w
-    → {reading : ℕ → Rule} {s t t' : List ℕ} {x : Reply} {r : ℕ} {values : List ℕ}
-    → Reads (capped (limits_of l)) reading s t x t'
-    → Says x r values
-    → SaysOfRead (capped (limits_in w)) reading s t t' r values
-within_read w e v h = record { reply = _; right = rw (ap capped e) at v; says = h }
-
-module _ (s : List ℕ) (x : Store.Settled) (v : settled_of x ≡ settings s) {l : Given.Limits}
-    (h : limits_of l ≡ held (settled_of x)) where
-  holding : l.depth ∷ l.bytes ∷ [] ≡ limit_words (held (settings s))
-  holding = ap limit_words (h ∙ ap held v)
-
-  -- A store that sets limits is number 0,
-  pub settings_set : {k : Given.Limits} → x ≡ Set k → SaysOfSettings s 0 (l.depth ∷ l.bytes ∷ []) (0 ∷ 0 ∷ 0 ∷ 0 ∷ [])
-  settings_set e =
-      let f = sym v ∙ ap settled_of e in
-      record { number = rw f; places = rw f; hold = holding }
-
-  -- and one that is refused its own with its place.
-  pub settings_refused : {n a b n₁ a₁ b₁ : ℕ} → x ≡ Refused₁ n a b → n₁ ≡ n → a₁ ≡ a → b₁ ≡ b
-      → SaysOfSettings s n₁ (l.depth ∷ l.bytes ∷ []) (a₁ ∷ b₁ ∷ 0 ∷ 0 ∷ [])
-  settings_refused e en ea eb =
-      let f = sym v ∙ ap settled_of e in
-      record { number = en ∙ sym (rw f); places = rw (ea, eb, f); hold = holding }
-
-pub ruleset limit_steps = (rules, within_check, within_read, settings_set, settings_refused)
 
 -- ---- parts
 

@@ -1,9 +1,7 @@
 -- A reply as C has it: its number is returned, and its values stand where the caller says.
-use Rattle.std.specs.Prelude.{ℕ, ◌≡◌, Bool, List, [], ◌∷◌, get_or}
+use Rattle.std.specs.Prelude.{ℕ, ◌≡◌, Bool, List, [], ◌∷◌}
 use Rattle.rules.specs.Rule.{Rule}
-use Rattle.jsx.specs.Reading.{Limits}
 use Rattle.jsx.specs.Table.{Part}
-use Rattle.jsx.specs.Settings.{Settled, set, unset, held, settings}
 use Rattle.stage.specs.declared.Reply.{Reply}
 use Rattle.stage.specs.declared.Reply.TheVariants.{Accepted, Refused}
 use Rattle.stage.specs.Call.{Checks, Reads}
@@ -23,39 +21,17 @@ pub record Says (reply : Reply) (r : ℕ) (values : List ℕ) : Type 0 where
   pub number : r ≡ number_of reply
   pub is : values ≡ values_of reply
 
--- What a check says of the input s, with the limits l.
-pub record SaysOfCheck (l : Limits) (reading : ℕ → Rule) (s : List ℕ) (r : ℕ) (values : List ℕ) : Type 0 where
+-- What a check says of the input s.
+pub record SaysOfCheck (reading : ℕ → Rule) (s : List ℕ) (r : ℕ) (values : List ℕ) : Type 0 where
   pub reply : Reply
-  pub right : Checks l reading s reply
+  pub right : Checks reading s reply
   pub says : Says reply r values
 
 -- What a read says, where it was lent the table t and leaves t'.
-pub record SaysOfRead (l : Limits) (reading : ℕ → Rule) (s t t' : List ℕ) (r : ℕ) (values : List ℕ) : Type 0 where
+pub record SaysOfRead (reading : ℕ → Rule) (s t t' : List ℕ) (r : ℕ) (values : List ℕ) : Type 0 where
   pub reply : Reply
-  pub right : Reads l reading s t reply t'
+  pub right : Reads reading s t reply t'
   pub says : Says reply r values
-
--- Limits as C has them: the depth, then the bytes.
-abbrev pub limit_words : Limits → List ℕ
-limit_words l = l.depth ∷ l.bytes ∷ []
-
-abbrev pub limits_in : List ℕ → Limits
-limits_in w = record { bytes = get_or w 1 0; depth = get_or w 0 0 }
-
--- What is said of a settings store s: D2: "31 mark, 32 cut short, 33, 34", with the place, or 0; and the limits that
--- hold behind it.
-abbrev pub settled_number : Settled → ℕ
-settled_number (set l) = 0
-settled_number (unset n a b) = n
-
-abbrev pub settled_values : Settled → List ℕ
-settled_values (set l) = 0 ∷ 0 ∷ 0 ∷ 0 ∷ []
-settled_values (unset n a b) = a ∷ b ∷ 0 ∷ 0 ∷ []
-
-pub record SaysOfSettings (s : List ℕ) (r : ℕ) (limits values : List ℕ) : Type 0 where
-  pub number : r ≡ settled_number (settings s)
-  pub places : values ≡ settled_values (settings s)
-  pub hold : limits ≡ limit_words (held (settings s))
 
 -- What is said of a part p of the input: whether it was found, and its start and end; D: "For a record number or span out
 -- of range it is the empty part at the input's start, and a yes or no tells which."

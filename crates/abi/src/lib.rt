@@ -1,16 +1,12 @@
-// The calls for C and Rust, over `stage` and `settings`. A slice is a pointer and a length; a reply is its number, 0
-// where the input is accepted, with its values in four words that the caller lends; limits are two words, the depth and
-// the bytes. No call asks anything of its caller but that what it lends is there.
+// The calls for C and Rust, over `stage`. A slice is a pointer and a length; a reply is its number, 0 where the input is
+// accepted, with its values in four words that the caller lends. No call asks anything of its caller but that what it
+// lends is there.
 #![tactic(auto)]
 
-ghost use Rattle.std.specs.Prelude.{◌≡◌};
-ghost use Rattle.jsx.specs.Reading.{standard, stage as stageRule, run as runRule};
+ghost use Rattle.jsx.specs.Reading.{stage as stageRule, run as runRule};
 ghost use Rattle.jsx.specs.Table.{span_part, record_part};
-ghost use Rattle.jsx.specs.Settings.{capped};
-ghost use Rattle.settings.specs.Contract.{limits_of};
-ghost use Rattle.abi.specs.Said.{Says, SaysOfCheck, SaysOfRead, limits_in, SaysOfSettings, SaysPart};
+ghost use Rattle.abi.specs.Said.{Says, SaysOfCheck, SaysOfRead, SaysPart};
 
-use settings::{Limits, Settled};
 use stage::Reply;
 use table::ROW_WORDS;
 
@@ -38,7 +34,7 @@ fn say(r: Reply, values: &mut [usize; 4]) -> u32
 // The check of a stage.
 #[unsafe(no_mangle)]
 pub extern "C" fn lorikvar_check_stage(s: &[u8], values: &mut [usize; 4]) -> u32
-    ensures { SaysOfCheck standard stageRule s.now result values.new }
+    ensures { SaysOfCheck stageRule s.now result values.new }
 {
     say(stage::check_stage(s), values)
 }
@@ -46,7 +42,7 @@ pub extern "C" fn lorikvar_check_stage(s: &[u8], values: &mut [usize; 4]) -> u32
 // The check of a run.
 #[unsafe(no_mangle)]
 pub extern "C" fn lorikvar_check_run(s: &[u8], values: &mut [usize; 4]) -> u32
-    ensures { SaysOfCheck standard runRule s.now result values.new }
+    ensures { SaysOfCheck runRule s.now result values.new }
 {
     say(stage::check_run(s), values)
 }
@@ -54,8 +50,7 @@ pub extern "C" fn lorikvar_check_run(s: &[u8], values: &mut [usize; 4]) -> u32
 // The read of a stage.
 #[unsafe(no_mangle)]
 pub extern "C" fn lorikvar_read_stage(s: &[u8], t: &mut [u32], values: &mut [usize; 4]) -> u32
-    ensures { SaysOfRead standard stageRule s.now t.old t.new
-        result values.new }
+    ensures { SaysOfRead stageRule s.now t.old t.new result values.new }
 {
     say(stage::read_stage(s, t), values)
 }
@@ -63,102 +58,9 @@ pub extern "C" fn lorikvar_read_stage(s: &[u8], t: &mut [u32], values: &mut [usi
 // The read of a run.
 #[unsafe(no_mangle)]
 pub extern "C" fn lorikvar_read_run(s: &[u8], t: &mut [u32], values: &mut [usize; 4]) -> u32
-    ensures { SaysOfRead standard runRule s.now t.old t.new
-        result values.new }
+    ensures { SaysOfRead runRule s.now t.old t.new result values.new }
 {
     say(stage::read_run(s, t), values)
-}
-
-// The limits in two words.
-fn given(limits: &[usize; 2]) -> Limits
-    ensures { limits_of result ≡ limits_in limits.now }
-{
-    Limits {
-        depth: limits[0],
-        bytes: limits[1],
-    }
-}
-
-// The check of a stage within limits.
-#[unsafe(no_mangle)]
-pub extern "C" fn lorikvar_check_stage_within(
-    s: &[u8],
-    limits: &[usize; 2],
-    values: &mut [usize; 4],
-) -> u32
-    ensures { SaysOfCheck (capped (limits_in limits.now)) stageRule s.now
-        result values.new }
-{
-    let l = given(limits);
-    say(stage::check_stage_within(s, l), values)
-}
-
-// The check of a run within limits.
-#[unsafe(no_mangle)]
-pub extern "C" fn lorikvar_check_run_within(
-    s: &[u8],
-    limits: &[usize; 2],
-    values: &mut [usize; 4],
-) -> u32
-    ensures { SaysOfCheck (capped (limits_in limits.now)) runRule s.now
-        result values.new }
-{
-    let l = given(limits);
-    say(stage::check_run_within(s, l), values)
-}
-
-// The read of a stage within limits.
-#[unsafe(no_mangle)]
-pub extern "C" fn lorikvar_read_stage_within(
-    s: &[u8],
-    limits: &[usize; 2],
-    t: &mut [u32],
-    values: &mut [usize; 4],
-) -> u32
-    ensures { SaysOfRead (capped (limits_in limits.now)) stageRule s.now
-        t.old t.new result values.new }
-{
-    let l = given(limits);
-    say(stage::read_stage_within(s, t, l), values)
-}
-
-// The read of a run within limits.
-#[unsafe(no_mangle)]
-pub extern "C" fn lorikvar_read_run_within(
-    s: &[u8],
-    limits: &[usize; 2],
-    t: &mut [u32],
-    values: &mut [usize; 4],
-) -> u32
-    ensures { SaysOfRead (capped (limits_in limits.now)) runRule s.now
-        t.old t.new result values.new }
-{
-    let l = given(limits);
-    say(stage::read_run_within(s, t, l), values)
-}
-
-// What a settings store is answered, and the limits that hold behind it.
-#[unsafe(no_mangle)]
-pub extern "C" fn lorikvar_settings(
-    store: &[u8],
-    limits: &mut [usize; 2],
-    values: &mut [usize; 4],
-) -> u32
-    ensures { SaysOfSettings store.now result limits.new values.new }
-{
-    let r = settings::settings(store);
-    let l = settings::held(r);
-    *limits = [l.depth, l.bytes];
-    match r {
-        Settled::Set(_) => {
-            *values = [0, 0, 0, 0];
-            0
-        }
-        Settled::Refused(n, a, b) => {
-            *values = [a, b, 0, 0];
-            n
-        }
-    }
 }
 
 // A part of the input, as its start and end, and whether it is in range.

@@ -42,10 +42,16 @@ unfolding answer
 too_long_lem l reading s h = rw (lt-ltb _ _ h)
 
 -- and one of as many bytes as are allowed is read.
-pub not_too_long : (l : Limits) (reading : ℕ → Rule) (s : List ℕ) → length s ≤ l.bytes
+pub not_longer : (l : Limits) (reading : ℕ → Rule) (s : List ℕ) → length s ≤ l.bytes
     → answer l reading s ≡ and_then (parse_all utf8 s) (λ a o p. parse_all (reading l.depth) s)
 unfolding answer
-not_too_long l reading s h = rw (le-ltb _ _ h)
+not_longer l reading s h = rw (le-ltb _ _ h)
+
+-- So is one of 1,048,576 bytes.
+pub not_too_long : (reading : ℕ → Rule) (s : List ℕ) → length s ≤ 1_048_576
+    → answer standard reading s ≡ and_then (parse_all utf8 s) (λ a o p. parse_all (reading 64) s)
+unfolding standard
+not_too_long reading s h = not_longer standard reading s h
 
 -- D: "Input is at most 1,048,576 bytes"; "64 is good".
 pub standard_limits : (standard.bytes ≡ 1_048_576) × (standard.depth ≡ 64)

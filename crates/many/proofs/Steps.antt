@@ -11,12 +11,8 @@ use lib.Dec.{eqb}
 use borrow.Author.Rules.{rules}
 use borrow.Author.Tests.{eq-eqb, ne_eqb}
 use Rattle.rules.specs.Parse.{pick}
-use Rattle.jsx.specs.Reading.{Limits, stage, run}
+use Rattle.jsx.specs.Reading.{stage, run}
 use Rattle.jsx.specs.Table.{holds}
-use Rattle.jsx.specs.Settings.{held, settings}
-use Rattle.settings.specs.declared.Limits as Given
-use Rattle.settings.specs.declared.Settled.{Settled}
-use Rattle.settings.specs.Contract.{limits_of, settled_of}
 use Rattle.stage.specs.declared.Reply.{Reply}
 use Rattle.stage.specs.declared.Reply.TheVariants.{Accepted, Refused}
 use Rattle.stage.specs.Call.{Numbered, Reads}
@@ -29,14 +25,14 @@ use Rattle.many.specs.Item.{reading}
 
 -- ---- the read of an item
 
-module _ {letter : ℕ} (l : Limits) (s t : List ℕ) {r : Reply} (t' : List ℕ) where
+module _ {letter : ℕ} (s t : List ℕ) {r : Reply} (t' : List ℕ) where
   -- By `s` a stage is read,
-  pub answer_stage : letter ≡ 115 → Reads l stage s t r t' → Reads l (reading letter) s t r t'
+  pub answer_stage : letter ≡ 115 → Reads stage s t r t' → Reads (reading letter) s t r t'
   unfolding reading
   answer_stage e v = let f = eq-eqb letter (code "s") e in rw f v
 
   -- and else a run.
-  pub answer_run : (letter ≡ 115 → ⊥) → Reads l run s t r t' → Reads l (reading letter) s t r t'
+  pub answer_run : (letter ≡ 115 → ⊥) → Reads run s t r t' → Reads (reading letter) s t r t'
   unfolding reading
   answer_run n v = let f = ne_eqb letter (code "s") n in rw f v
 
@@ -48,15 +44,15 @@ letter_writes : (b : Bool) → WritesWhatIsRead (pick b stage run)
 letter_writes true = stage_writes
 letter_writes false = run_writes
 
-module _ (letter : ℕ) {l : Limits} {s t t' : List ℕ} {x r : Reply} (v : Reads l (reading letter) s t r t') where
+module _ (letter : ℕ) {s t t' : List ℕ} {x r : Reply} (v : Reads (reading letter) s t r t') where
   -- Its count is a word,
   pub answer_small : length t ≤ row_words * 131_072 → x ≡ r → Small x
   unfolding holds reading
   answer_small h e = rw e (by r v)
     where
-      by : (r : Reply) → Reads l (reading letter) s t r t' → Small r
+      by : (r : Reply) → Reads (reading letter) s t r t' → Small r
       by (Accepted m) w =
-          let f = reads_fit (letter_writes (eqb letter (code "s"))) l s t m t' w in omega arith
+          let f = reads_fit (letter_writes (eqb letter (code "s"))) s t m t' w in omega arith
       by (Refused n a b c d) w = tt
 
   -- and a refusal has a number.
@@ -96,13 +92,3 @@ pub accepted_small : {x : Reply} {m k : ℕ} → Small x → x ≡ Accepted m �
 accepted_small v e f = let w = subst Small e v in omega arith
 
 pub ruleset short_asked = (rules, accepted_fits, refused_fits, accepted_small)
-
--- ---- a store
-
--- The limits that hold behind a store are those behind its answer.
-pub store_held : (s : List ℕ) (r : Settled) {l : Given.Limits} → settled_of r ≡ settings s
-    → limits_of l ≡ held (settled_of r)
-    → limits_of l ≡ held (settings s)
-store_held s r v h = h ∙ ap held v
-
-pub ruleset store_steps = (rules, store_held)

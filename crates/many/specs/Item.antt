@@ -5,8 +5,7 @@ use Rattle.rules.specs.Rule.{Rule}
 use Rattle.rules.specs.Parse.{pick}
 use Rattle.jsx.specs.Reading.{stage, run}
 
--- Of the items that are read, `s` is a stage, and `r`, the only other letter that is let in, a run. The levels that are
--- allowed come next.
+-- `s` is a stage, and `r`, the only other letter that is let in, a run. The levels that are allowed come next.
 unfoldable pub reading : (letter : ℕ) → ℕ → Rule
 reading letter = pick (eqb letter (code "s")) stage run
 

@@ -1,16 +1,12 @@
 // Answers many stages and runs from one standard input, for the programs `batch` and `borders`, which lend it room. An
-// item is one byte, `s` for a stage, `r` for a run or `c` for a settings store, its length in 4 bytes, low byte first,
-// and its bytes. The answer to a stage or a run has the form that `lorikvar` prints. An item of more than 1,048,576
-// bytes is `no 1 0 0 0 0`, and its bytes are passed over; a table has 131,072 records. A store is answered by
-// `set DEPTH LENGTH`, or by its refusal, and the items behind it are read with the limits that hold then: its own, or
-// document 01's. A wrong first byte, a store of more than 1,048,576 bytes, or an input that ends inside an item, is
-// `bad item K`, counted from 0, and ends the batch.
+// item is one byte, `s` for a stage or `r` for a run, its length in 4 bytes, low byte first, and its bytes. Each answer
+// has the form that `lorikvar` prints. An item of more than 1,048,576 bytes is `no 1 0 0 0 0`, and its bytes are passed
+// over; a table has 131,072 records. A wrong first byte, or an input that ends inside an item, is `bad item K`, counted
+// from 0, and ends the batch.
 #![tactic(auto)]
 
 ghost use Rattle.std.specs.Prelude.{◌*◌, ◌≤◌, ◌<◌, ◌^◌, length, ◌≡◌};
 ghost use Rattle.rules.specs.Record.{row_words};
-ghost use Rattle.jsx.specs.Settings.{settings, held, capped};
-ghost use Rattle.settings.specs.Contract.{limits_of};
 ghost use Rattle.stage.specs.Call.{Numbered, Reads};
 ghost use Rattle.print.specs.Answer.{text_room, most, Small};
 ghost use Rattle.many.specs.Item.{reading, length_of};
@@ -18,14 +14,11 @@ ghost use Rattle.many.specs.Item.{reading, length_of};
 use lex::refusal::TOO_LONG;
 use libc::{STDIN_FILENO, STDOUT_FILENO};
 use put::{OK_BYTES, ROW_BYTES};
-use settings::{Limits, Settled};
 use stage::Reply;
 
 const STAGE: u8 = b's';
 
 const RUN: u8 = b'r';
-
-const STORE: u8 = b'c';
 
 // The bytes in front of an item: its letter and its length.
 const HEAD_BYTES: usize = 5;
@@ -70,7 +63,7 @@ fn read_head() -> Head {
     if n < HEAD_BYTES {
         return Head::Bad;
     }
-    if letter != STAGE && letter != RUN && letter != STORE {
+    if letter != STAGE && letter != RUN {
         return Head::Bad;
     }
     Head::Item(letter, item_length(&head))
@@ -93,27 +86,14 @@ fn take_bytes(item: &mut [u8], n: usize) -> bool
     rest == left
 }
 
-// Takes the bytes of an item, and says whether they are there. A store must have room in `item`.
-fn take_item(letter: u8, item: &mut [u8], n: usize) -> bool
-    requires { 1 ≤ length item.old }
-{
-    if letter == STORE {
-        if item.len() < n {
-            return false;
-        }
-    }
-    take_bytes(item, n)
-}
-
-// The read of a stage or of a run, by the item's letter, with the limits that hold.
-fn answer(letter: u8, s: &[u8], t: &mut [u32], l: Limits) -> Reply
-    ensures { Reads (capped (limits_of l)) (reading letter) s.now t.old
-        result t.new }
+// The read of a stage or of a run, by the item's letter.
+fn answer(letter: u8, s: &[u8], t: &mut [u32]) -> Reply
+    ensures { Reads (reading letter) s.now t.old result t.new }
 {
     if letter == STAGE {
-        return stage::read_stage_within(s, t, l);
+        return stage::read_stage(s, t);
     }
-    stage::read_run_within(s, t, l)
+    stage::read_run(s, t)
 }
 
 // Writes the first e bytes of the buffer.
@@ -180,54 +160,16 @@ fn write_answer(out: &mut [u8], r: Reply, t: &[u32])
     }
 }
 
-// Writes what a store is answered.
-fn write_settled(out: &mut [u8], r: Settled)
-    requires { text_room 1_024 ≤ length out.old }
-{
-    match r {
-        Settled::Set(l) => {
-            let e = put::put_set(out, 0, l.depth, l.bytes);
-            write_front(out, e);
-        }
-        Settled::Refused(n, a, b) => {
-            let e = put::put_no(out, 0, n as usize, a, b, 0, 0);
-            write_front(out, e);
-        }
-    }
-}
-
-// Answers a store, and gives the limits that hold behind it.
-fn answer_store(s: &[u8], out: &mut [u8]) -> Limits
-    requires { text_room 1_024 ≤ length out.old }
-    ensures { limits_of result ≡ held (settings s.now) }
-{
-    let r = settings::settings(s);
-    write_settled(out, r);
-    settings::held(r)
-}
-
-// Answers an item whose bytes are at the front of `item`, unless it is too long, and gives the limits that hold behind
-// it.
-fn answer_item(
-    letter: u8,
-    n: usize,
-    item: &[u8],
-    t: &mut [u32],
-    out: &mut [u8],
-    l: Limits,
-) -> Limits
+// Answers an item whose bytes are at the front of `item`, unless it is too long.
+fn answer_item(letter: u8, n: usize, item: &[u8], t: &mut [u32], out: &mut [u8])
     requires { (text_room 1_024 ≤ length out.old) × (length t.old ≤ row_words * 131_072) }
 {
     if item.len() < n {
         write_answer(out, Reply::Refused(TOO_LONG, 0, 0, 0, 0), t);
-        return l;
+        return;
     }
-    if letter == STORE {
-        return answer_store(&item[..n], out);
-    }
-    let r = answer(letter, &item[..n], t, l);
+    let r = answer(letter, &item[..n], t);
     write_answer(out, r, t);
-    l
 }
 
 // The line of a bad item.
@@ -243,7 +185,6 @@ pub fn answer_all(item: &mut [u8], t: &mut [u32], out: &mut [u8])
         (length t.old ≤ row_words * 131_072) }
 {
     let mut k = 0;
-    let mut l = settings::standard();
     while k < ITEMS {
         let h = read_head();
         match h {
@@ -255,11 +196,11 @@ pub fn answer_all(item: &mut [u8], t: &mut [u32], out: &mut [u8])
                 return;
             }
             Head::Item(letter, n) => {
-                if !take_item(letter, item, n) {
+                if !take_bytes(item, n) {
                     write_bad(k);
                     return;
                 }
-                l = answer_item(letter, n, item, t, out, l);
+                answer_item(letter, n, item, t, out);
             }
         }
         k = k + 1;

@@ -68,14 +68,14 @@ zeros_are : zeros ≡ program_table
 unfolding program_table
 zeros_are = refl
 
-module _ {s t t' : List ℕ} {r : Reply} (z : t ≡ zeros) (v : Reads standard stage s t r t') where
+module _ {s t t' : List ℕ} {r : Reply} (z : t ≡ zeros) (v : Reads stage s t r t') where
   -- Of the program's table, the count is a word,
   pub whole_small : {x : Reply} → x ≡ r → Small x
   whole_small e = rw e (by r v)
     where
-      by : (r : Reply) → Reads standard stage s t r t' → Small r
+      by : (r : Reply) → Reads stage s t r t' → Small r
       by (Accepted m) w =
-          let f = reads_fit stage_writes standard s t m t' w in
+          let f = reads_fit stage_writes s t m t' w in
           let g : holds t ≡ 2_048 = ap holds (z ∙ zeros_are) ∙ program_holds in
           omega arith
       by (Refused n a b c d) w = tt
@@ -83,9 +83,9 @@ module _ {s t t' : List ℕ} {r : Reply} (z : t ≡ zeros) (v : Reads standard s
   few : most r ≤ text_room 2_048
   few = by r v
     where
-      by : (r : Reply) → Reads standard stage s t r t' → most r ≤ text_room 2_048
+      by : (r : Reply) → Reads stage s t r t' → most r ≤ text_room 2_048
       by (Accepted m) w =
-          let f = reads_fit stage_writes standard s t m t' w in
+          let f = reads_fit stage_writes s t m t' w in
           let g : holds t ≡ 2_048 = ap holds (z ∙ zeros_are) ∙ program_holds in
           omega arith
       by (Refused n a b c d) w = omega arith

@@ -1,23 +1,24 @@
 -- Demand 2: specs/Demand2.antt proved, statement by statement.
 use mathlib.Core.Path.{◌≡◌, refl, sym, ap, subst, ◌∙◌}
-use mathlib.Core.Bool.{true}
-use mathlib.Core.List.{List, [], ◌++◌}
+use mathlib.Core.Bool.{Bool, true, false}
+use mathlib.Core.List.{List, [], ◌∷◌, ◌++◌}
 use Prim.Native.Nat.{ℕ, ◌*◌, ◌≤◌, ◌<◌}
 use native.Mathlib.Omega.{arith}
 use native.Mathlib.Decide.{dec_lt}
 use lib.ListN.{get_or}
+use lib.Dec.{leb}
 use borrow.Author.Tests.{lt-leb}
 use Rattle.rules.specs.Forest.{Forest}
 use Rattle.rules.specs.Rule.{Rule}
-use Rattle.rules.specs.Parse.{Answer, got, trouble}
+use Rattle.rules.specs.Parse.{Answer, got, trouble, pick}
 use Rattle.rules.specs.Record.{row_words, row, count}
 use Rattle.jsx.specs.Byte.{bytes_of}
 use Rattle.jsx.specs.Kind as Kind
 use Rattle.jsx.specs.Refusal.{table_too_small, names_differ}
-use Rattle.jsx.specs.Reading.{Limits, standard, answer, stage, run}
-use Rattle.jsx.specs.Table.{Outcome, accepted, refused, holds}
+use Rattle.jsx.specs.Reading.{standard, answer, stage, run}
+use Rattle.jsx.specs.Table.{Outcome, missing, accepted, refused, holds}
 use Rattle.jsx.specs.Table.{written, checked, read_into, check, read, table_word}
-use Rattle.jsx.specs.Compose.{ReadAs, rows_of}
+use Rattle.jsx.specs.Compose.{count_of, ReadAs, rows_of}
 use Rattle.jsx.proofs.Case.{whole_language}
 use Rattle.jsx.proofs.Accepted.{check_zero, accepted_answer, accepted_check, accepted_read, read_accepted}
 use Rattle.jsx.proofs.Numbers.{Numbering, stage_numbers, run_numbers, refusal_number}
@@ -34,16 +35,14 @@ use Rattle.stage.proofs.Tight.{one_outcome}
 -- ---- acceptance and the table
 
 -- A check whose outcome is known gives one reply,
-check_is : {l : Limits} {reading : ℕ → Rule} {s : List ℕ} (r r' : Reply) → Checks l reading s r → Numbered r'
-    → check l reading s ≡ outcome r' []
+check_is : {reading : ℕ → Rule} {s : List ℕ} (r r' : Reply) → Checks reading s r → Numbered r'
+    → check standard reading s ≡ outcome r' []
     → r ≡ r'
 check_is r r' v n e = (one_outcome r r' [] [] v.numbered n (v.is ∙ e)).0
 
 -- and so does a read, with one table after it.
-read_is : {l : Limits} {reading : ℕ → Rule} {s t t₁ : List ℕ} (r r' : Reply) (t₂ : List ℕ)
-    → Reads l reading s t r t₁
-    → Numbered r'
-    → read l reading s t ≡ outcome r' t₂
+read_is : {reading : ℕ → Rule} {s t t₁ : List ℕ} (r r' : Reply) (t₂ : List ℕ) → Reads reading s t r t₁ → Numbered r'
+    → read standard reading s t ≡ outcome r' t₂
     → (r ≡ r') × (t₁ ≡ t₂)
 read_is {t₁ = t₁} r r' t₂ v n e = one_outcome r r' t₁ t₂ v.numbered n (v.is ∙ e)
 
@@ -51,56 +50,56 @@ module _ {reading : ℕ → Rule} (nu : Numbering reading) where
   accepts : AcceptsWhatIsRead reading
   unfolding accepted
   accepts = record {
-    only_that = λ l s m v.
-        let x = check_zero l reading s nu.proper (sym (ap (λ (y : Outcome). y.number) v.is)) in
-        let k = ap (λ (y : Outcome). y.count) (v.is ∙ accepted_check l reading s x.1) in
+    only_that = λ s m v.
+        let x = check_zero standard reading s nu.proper (sym (ap (λ (y : Outcome). y.number) v.is)) in
+        let k = ap (λ (y : Outcome). y.count) (v.is ∙ accepted_check standard reading s x.1) in
         (x.0, x.1, k);
-    all_of_that = λ l s u x r v. check_is r (Accepted (count u)) v tt (accepted_check l reading s x);
+    all_of_that = λ s u x r v. check_is r (Accepted (count u)) v tt (accepted_check standard reading s x);
   }
 
   -- Without room, 15.
-  small : (l : Limits) (s t : List ℕ) (u : Forest) → ReadAs l reading s u → holds t < count u
-      → read l reading s t ≡ refused table_too_small (count u) 0 0 0 t
+  small : (s t : List ℕ) (u : Forest) → ReadAs standard reading s u → holds t < count u
+      → read standard reading s t ≡ refused table_too_small (count u) 0 0 0 t
   unfolding read read_into
-  small l s t u x h =
-      let e = accepted_answer l reading s x in
+  small s t u x h =
+      let e = accepted_answer standard reading s x in
       let f = lt-leb (count u) (holds t) h in
       ap (read_into t) {y = got true u e.0} e.1 ∙ rw f
 
   -- Where a read accepts, so does the check.
-  read_zero : (l : Limits) (s t : List ℕ) (m : ℕ) (t' : List ℕ) → Reads l reading s t (Accepted m) t'
-      → (check l reading s).number ≡ 0
+  read_zero : (s t : List ℕ) (m : ℕ) (t' : List ℕ) → Reads reading s t (Accepted m) t'
+      → (check standard reading s).number ≡ 0
   unfolding read read_into check checked accepted
-  read_zero l s t m t' v = by (answer l reading s) refl v.is
+  read_zero s t m t' v = by (answer standard reading s) refl v.is
     where
-      by : (x : Answer) → answer l reading s ≡ x → accepted m t' ≡ read_into t x → (checked x).number ≡ 0
+      by : (x : Answer) → answer standard reading s ≡ x → accepted m t' ≡ read_into t x → (checked x).number ≡ 0
       by (got a o p) e k = refl
-      by (trouble n a b c d) e k = absurd (not_both n a b c d m t t' (refusal_number nu l s e).0 (sym k))
+      by (trouble n a b c d) e k = absurd (not_both n a b c d m t t' (refusal_number nu standard s e).0 (sym k))
 
-  only_rows : (l : Limits) (s t : List ℕ) (m : ℕ) (t' : List ℕ) → Reads l reading s t (Accepted m) t'
-      → (u : Forest) × ReadAs l reading s u × (m ≡ count u) × (t' ≡ written (rows_of u) t)
+  only_rows : (s t : List ℕ) (m : ℕ) (t' : List ℕ) → Reads reading s t (Accepted m) t'
+      → (u : Forest) × ReadAs standard reading s u × (m ≡ count u) × (t' ≡ written (rows_of u) t)
   unfolding accepted
-  only_rows l s t m t' v = by (check_zero l reading s nu.proper (read_zero l s t m t' v))
+  only_rows s t m t' v = by (check_zero standard reading s nu.proper (read_zero s t m t' v))
     where
-      by : (u : Forest) × ReadAs l reading s u
-          → (u : Forest) × ReadAs l reading s u × (m ≡ count u) × (t' ≡ written (rows_of u) t)
+      by : (u : Forest) × ReadAs standard reading s u
+          → (u : Forest) × ReadAs standard reading s u × (m ≡ count u) × (t' ≡ written (rows_of u) t)
       by (u, x) = room (dec_lt (holds t) (count u))
         where
           room : Dec (holds t < count u)
-              → (u : Forest) × ReadAs l reading s u × (m ≡ count u) × (t' ≡ written (rows_of u) t)
+              → (u : Forest) × ReadAs standard reading s u × (m ≡ count u) × (t' ≡ written (rows_of u) t)
           room (yes h) =
-              absurd (not_both table_too_small (count u) 0 0 0 m t t' (omega arith) (sym (v.is ∙ small l s t u x h)))
+              absurd (not_both table_too_small (count u) 0 0 0 m t t' (omega arith) (sym (v.is ∙ small s t u x h)))
           room (no h) =
-              let e = v.is ∙ accepted_read l reading s x t (omega arith) in
+              let e = v.is ∙ accepted_read standard reading s x t (omega arith) in
               (u, x, ap (λ (y : Outcome). y.count) e, ap (λ (y : Outcome). y.table) e)
 
   writes : WritesWhatIsRead reading
   writes = record {
     only_that = only_rows;
-    with_room = λ l s t u x h r t' v.
-        read_is r (Accepted (count u)) (written (rows_of u) t) v tt (accepted_read l reading s x t h);
-    without_room = λ l s t u x h r t' v.
-        read_is r (Refused table_too_small (count u) 0 0 0) t v (omega arith) (small l s t u x h);
+    with_room = λ s t u x h r t' v.
+        read_is r (Accepted (count u)) (written (rows_of u) t) v tt (accepted_read standard reading s x t h);
+    without_room = λ s t u x h r t' v.
+        read_is r (Refused table_too_small (count u) 0 0 0) t v (omega arith) (small s t u x h);
   }
 
 -- Stages are accepted as the definition says,
@@ -120,17 +119,17 @@ pub run_writes : WritesWhatIsRead run
 run_writes = writes run_numbers
 
 -- A read's count is within its table.
-pub reads_fit : {reading : ℕ → Rule} → WritesWhatIsRead reading → (l : Limits) (s t : List ℕ) (m : ℕ) (t' : List ℕ)
-    → Reads l reading s t (Accepted m) t'
+pub reads_fit : {reading : ℕ → Rule} → WritesWhatIsRead reading → (s t : List ℕ) (m : ℕ) (t' : List ℕ)
+    → Reads reading s t (Accepted m) t'
     → m ≤ holds t
-reads_fit {reading} writes l s t m t' v = by (writes.only_that l s t m t' v)
+reads_fit {reading} writes s t m t' v = by (writes.only_that s t m t' v)
   where
-    by : (u : Forest) × ReadAs l reading s u × (m ≡ count u) × (t' ≡ written (rows_of u) t) → m ≤ holds t
+    by : (u : Forest) × ReadAs standard reading s u × (m ≡ count u) × (t' ≡ written (rows_of u) t) → m ≤ holds t
     by (u, x, e, w) = room (dec_lt (holds t) m)
       where
         room : Dec (holds t < m) → m ≤ holds t
         room (yes h) =
-            let z = (writes.without_room l s t u x (omega arith) (Accepted m) t' v).0 in
+            let z = (writes.without_room s t u x (omega arith) (Accepted m) t' v).0 in
             let one : ◌≡◌ {A = ℕ} 0 1 = cc z in
             absurd (omega arith)
         room (no h) = omega arith
@@ -214,8 +213,8 @@ not_the_first_child_alone f right same =
 -- The count is the check's.
 pub no_invented_count : NoInventedCount
 no_invented_count f right s t m h =
-    let v = subst (λ (r : Reply). Reads standard stage s t r (f s t).1) h (right s t) in
-    let x = only_rows stage_numbers standard s t m (f s t).1 v in
+    let v = subst (λ (r : Reply). Reads stage s t r (f s t).1) h (right s t) in
+    let x = only_rows stage_numbers s t m (f s t).1 v in
     x.2 ∙ sym (read_accepted standard stage s x.1).1
 
 -- ---- easy slips

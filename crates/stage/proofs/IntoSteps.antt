@@ -1,22 +1,23 @@
 -- The two readings, step by step, from the readers' answers.
-use mathlib.Core.Path.{◌≡◌, refl, sym, ◌∙◌}
+use mathlib.Core.Path.{◌≡◌, refl, sym, ap, ◌∙◌}
 use mathlib.Core.Bool.{Bool, true, false}
 use mathlib.Core.List.{List}
 use Prim.Native.Char.{code}
-use Prim.Native.Nat.{ℕ, suc, ◌≤◌, ◌<◌}
+use Prim.Native.Nat.{ℕ, suc, ◌+◌, ◌*◌, ◌≤◌, ◌<◌, ◌^◌}
 use native.Mathlib.Omega.{arith}
 use lib.Dec.{lit<}
 use lib.ListN.{length}
 use borrow.Author.Rules.{rules}
 use Rattle.rules.specs.Forest.{Forest}
-use Rattle.rules.specs.Rule.{Rule, done, refuse, when, here, ◌⨾◌, ◌⇒◌∣◌}
-use Rattle.rules.specs.Parse.{Answer, got, trouble, byte_at, parse, read_at}
+use Rattle.rules.specs.Rule.{Test, Rule, done, refuse, when, seq, here, ◌⨾◌, ◌⇒◌∣◌}
+use Rattle.rules.specs.Parse.{Answer, got, trouble, pick, byte_at, parse, read_at}
+use Rattle.rules.specs.Record.{row_words}
 use Rattle.rules.proofs.Run.{goes}
 use Rattle.rules.proofs.Flat.{seq_assoc}
 use Rattle.jsx.specs.Refusal.{unexpected, after_stage}
 use Rattle.jsx.specs.Byte.{is, end, need}
 use Rattle.jsx.specs.Blank.{blanks}
-use Rattle.jsx.specs.Expression.{no_sibling}
+use Rattle.jsx.specs.Expression.{no_sibling, sibling}
 use Rattle.jsx.specs.Element.{children}
 use Rattle.jsx.specs.Depth.{within}
 use Rattle.jsx.specs.Reading.{stage, run}
@@ -26,7 +27,7 @@ use Rattle.lex.specs.declared.Ans.{Ans}
 use Rattle.lex.specs.declared.Ans.TheVariants.{Got, No}
 use Rattle.lex.proofs.Laws as Lex
 use Rattle.lex.proofs.Bare.{goes_blanks, bare_blanks}
-use Rattle.table.specs.Slot.{Seat}
+use Rattle.table.specs.Slot.{Seat, seat_behind}
 use Rattle.table.specs.Reader.{Room, Made}
 use Rattle.table.proofs.Made.{refused}
 use Rattle.table.proofs.Upto.{Upto, upto_begin, upto_as, upto_count}
@@ -60,89 +61,89 @@ abbrev behind_element : Rule
 behind_element = blanks ⨾ ending after_stage
 
 -- A stage behind its blanks.
-abbrev from_element : ℕ → Rule
-from_element d = (when (is "<") ⇒ (within d).element ∣ need) ⨾ no_sibling after_stage ⨾ behind_element
+abbrev from_element : Rule
+from_element = (when (is "<") ⇒ (within 64).element ∣ need) ⨾ no_sibling after_stage ⨾ behind_element
 
 -- An element that is no child goes on.
-goes_lone : (d : ℕ) → goes ((within d).element ⨾ no_sibling after_stage) ≡ true
+goes_lone : goes ((within 64).element ⨾ no_sibling after_stage) ≡ true
 unfolding goes
-goes_lone d = rw ((within_goes d).element, goes_sibling after_stage)
+goes_lone = rw ((within_goes 64).element, goes_sibling after_stage)
 
-module _ (d : ℕ) (s : List ℕ) (p : ℕ) where
+module _ (s : List ℕ) (p : ℕ) where
   first : is "<" (byte_at s p) ≡ true
-      → read_at s (from_element d) p ≡ read_at s ((within d).element ⨾ no_sibling after_stage ⨾ behind_element) p
+      → read_at s from_element p ≡ read_at s ((within 64).element ⨾ no_sibling after_stage ⨾ behind_element) p
   unfolding parse
   first h = rw h
 
   -- Where a `<` stands, an element is read, and the look behind it with it.
   opened : is "<" (byte_at s p) ≡ true
-      → read_at s (from_element d) p ≡ read_at s (((within d).element ⨾ no_sibling after_stage) ⨾ behind_element) p
+      → read_at s from_element p ≡ read_at s (((within 64).element ⨾ no_sibling after_stage) ⨾ behind_element) p
   opened h =
-      first h ∙ sym (seq_assoc s (suc (length s)) (within d).element (no_sibling after_stage) behind_element 0 p)
+      first h ∙ sym (seq_assoc s (suc (length s)) (within 64).element (no_sibling after_stage) behind_element 0 p)
 
   -- Where none stands, the refusal of what is needed is the whole answer.
-  unopened : is "<" (byte_at s p) ≡ false → {n a b c e : ℕ} → read_at s need p ≡ trouble n a b c e
-      → read_at s (from_element d) p ≡ trouble n a b c e
+  unopened : is "<" (byte_at s p) ≡ false → {n a b c d : ℕ} → read_at s need p ≡ trouble n a b c d
+      → read_at s from_element p ≡ trouble n a b c d
   unfolding parse
   unopened h e = rw (h, e)
 
-module _ (d : ℕ) {s : List ℕ} {t : List ℕ} (i : length s ≤ 1_048_576) {r : Ans} (l : Leaf nothing r s blanks 0 0) where
-  begun : Upto s (stage d) 0 whole 0 t (blanks ⨾ from_element d) 0 0 t
+module _ {s : List ℕ} {t : List ℕ} (i : length s ≤ 1_048_576) {r : Ans} (l : Leaf nothing r s blanks 0 0) where
+  begun : Upto s (stage 64) 0 whole 0 t (blanks ⨾ from_element) 0 0 t
   unfolding stage
-  begun = upto_begin (stage d) whole 0 t (omega arith)
+  begun = upto_begin (stage 64) whole 0 t (omega arith)
 
   -- The blanks in front refuse.
-  pub stage_blanks_stop : {t' : List ℕ} {n a b c e : ℕ} → r ≡ No n a b c e → Made r s (stage d) 0 0 whole 0 t t'
+  pub stage_blanks_stop : {t' : List ℕ} {n a b c d : ℕ} → r ≡ No n a b c d → Made r s (stage 64) 0 0 whole 0 t t'
   stage_blanks_stop h = refused (leaf_stops begun l h) h
 
   module _ {p j : ℕ} (h : r ≡ Got p j) {b : ℕ} (y : b ≡ byte_at s p) where
-    passed : Upto s (stage d) 0 whole 0 t (from_element d) p 0 t
+    passed : Upto s (stage 64) 0 whole 0 t from_element p 0 t
     passed = leaf_goes begun l goes_blanks bare_blanks h
 
     -- No `<` is behind them.
     pub stage_unopened : {r₂ : Ans} {t' : List ℕ} → (b ≡ code "<" → ⊥) → Leaf nothing r₂ s need p 0
-        → Made r₂ s (stage d) 0 0 whole 0 t t'
+        → Made r₂ s (stage 64) 0 0 whole 0 t t'
     stage_unopened {r₂} {t'} x l₂ = by r₂ refl
       where
-        by : (z : Ans) → r₂ ≡ z → Made r₂ s (stage d) 0 0 whole 0 t t'
+        by : (z : Ans) → r₂ ≡ z → Made r₂ s (stage 64) 0 0 whole 0 t t'
         by (Got q k) e =
             let v = Lex.view_got nothing (read_at s need p) l₂.is e in
             absurd (never (read_at s need p) (Lex.need_fails s p) v.1)
           where
             never : (w : Answer) → Lex.Fails w → {a : Bool} {o : Forest} {q : ℕ} → w ≡ got a o q → ⊥
             never (got a o q) f g = f
-            never (trouble n a b c e) f g = let z : ◌≡◌ {A = ℕ} 0 1 = cc in omega arith
-        by (No n a b₁ c e₁) e =
-            refused (upto_no passed (unopened d s p (Lex.byte_not y x) (Lex.leaf_no l₂ e))) e
+            never (trouble n a b c d) f g = let z : ◌≡◌ {A = ℕ} 0 1 = cc in omega arith
+        by (No n a b₁ c d) e =
+            refused (upto_no passed (unopened s p (Lex.byte_not y x) (Lex.leaf_no l₂ e))) e
 
     module _ (x : b ≡ code "<") {w : Seat} (e₀ : w ≡ whole) {r₂ : Ans} {t₂ : List ℕ}
-        (l₂ : Made r₂ s ((within d).element ⨾ no_sibling after_stage) p 1 w 0 t t₂) where
-      read : Upto s (stage d) 0 whole 0 t (((within d).element ⨾ no_sibling after_stage) ⨾ behind_element) p 0 t
-      read = upto_as passed (opened d s p (Lex.byte_is y x))
+        (l₂ : Made r₂ s ((within 64).element ⨾ no_sibling after_stage) p 1 w 0 t t₂) where
+      read : Upto s (stage 64) 0 whole 0 t (((within 64).element ⨾ no_sibling after_stage) ⨾ behind_element) p 0 t
+      read = upto_as passed (opened s p (Lex.byte_is y x))
 
       -- The element refuses, or what is behind it.
-      pub stage_element_stops : {n a b₁ c e : ℕ} → r₂ ≡ No n a b₁ c e → Made r₂ s (stage d) 0 0 whole 0 t t₂
+      pub stage_element_stops : {n a c d e : ℕ} → r₂ ≡ No n a c d e → Made r₂ s (stage 64) 0 0 whole 0 t t₂
       stage_element_stops h₂ = refused (made_stops read l₂ h₂) h₂
 
       module _ {z m : ℕ} (h₂ : r₂ ≡ Got z m) {r₃ : Ans} (l₃ : Leaf nothing r₃ s blanks z 0) where
-        behind_it : Upto s (stage d) 0 whole 0 t behind_element z m t₂
-        behind_it = upto_count (made_goes read l₂ (goes_lone d) (e₀ ∙ same_seat whole) refl h₂) (omega arith)
+        behind_it : Upto s (stage 64) 0 whole 0 t behind_element z m t₂
+        behind_it = upto_count (made_goes read l₂ goes_lone (e₀ ∙ same_seat whole) refl h₂) (omega arith)
 
         -- The blanks behind it refuse.
-        pub stage_last_stop : {t' : List ℕ} {n a b₁ c e : ℕ} → r₃ ≡ No n a b₁ c e → Made r₃ s (stage d) 0 0 whole 0 t t'
+        pub stage_last_stop : {t' : List ℕ} {n a c d e : ℕ} → r₃ ≡ No n a c d e → Made r₃ s (stage 64) 0 0 whole 0 t t'
         stage_last_stop h₃ = refused (leaf_stops behind_it l₃ h₃) h₃
 
         module _ {q k : ℕ} (h₃ : r₃ ≡ Got q k) {f : ℕ} (y₃ : f ≡ byte_at s q) where
-          last : Upto s (stage d) 0 whole 0 t (ending after_stage) q m t₂
+          last : Upto s (stage 64) 0 whole 0 t (ending after_stage) q m t₂
           last = leaf_goes behind_it l₃ goes_blanks bare_blanks h₃
 
           -- The input ends behind them.
-          pub stage_ends : f ≡ 256 → {q₁ m₁ : ℕ} → q₁ ≡ q → m₁ ≡ m → Made (Got q₁ m₁) s (stage d) 0 0 whole 0 t t₂
+          pub stage_ends : f ≡ 256 → {q₁ m₁ : ℕ} → q₁ ≡ q → m₁ ≡ m → Made (Got q₁ m₁) s (stage 64) 0 0 whole 0 t t₂
           stage_ends x₃ e₁ e₂ = rw (e₁, e₂) (ends last y₃ x₃)
 
           -- It does not.
           pub stage_more : (f ≡ 256 → ⊥) → {q₁ q₂ : ℕ} → q₁ ≡ q → q₂ ≡ q
-              → Made (No 13 q₁ q₂ 0 0) s (stage d) 0 0 whole 0 t t₂
+              → Made (No 13 q₁ q₂ 0 0) s (stage 64) 0 0 whole 0 t t₂
           stage_more x₃ e₁ e₂ = rw (e₁, e₂) (ends_not last y₃ x₃)
 
 pub ruleset stage_steps = (
@@ -157,30 +158,30 @@ pub ruleset stage_steps = (
 
 -- ---- a run
 
-module _ (d : ℕ) {s : List ℕ} {t t₂ : List ℕ} (i : length s ≤ 1_048_576) {w : Seat} (e₀ : w ≡ whole) {r : Ans}
-    (l : Made r s (children (within d)) 0 0 w 0 t t₂) where
-  run_begun : Upto s (run d) 0 whole 0 t (children (within d) ⨾ ending unexpected) 0 0 t
+module _ {s : List ℕ} {t t₂ : List ℕ} (i : length s ≤ 1_048_576) {w : Seat} (e₀ : w ≡ whole) {r : Ans}
+    (l : Made r s (children (within 64)) 0 0 w 0 t t₂) where
+  run_begun : Upto s (run 64) 0 whole 0 t (children (within 64) ⨾ ending unexpected) 0 0 t
   unfolding run
-  run_begun = upto_begin (run d) whole 0 t (omega arith)
+  run_begun = upto_begin (run 64) whole 0 t (omega arith)
 
-  goes_children : goes (children (within d)) ≡ true
+  goes_children : goes (children (within 64)) ≡ true
   unfolding goes children
   goes_children = refl
 
   -- A child refuses.
-  pub run_stops : {n a b c e : ℕ} → r ≡ No n a b c e → Made r s (run d) 0 0 whole 0 t t₂
+  pub run_stops : {n a b c d : ℕ} → r ≡ No n a b c d → Made r s (run 64) 0 0 whole 0 t t₂
   run_stops h = refused (made_stops run_begun l h) h
 
   module _ {p m : ℕ} (h : r ≡ Got p m) {b : ℕ} (y : b ≡ byte_at s p) where
-    run_last : Upto s (run d) 0 whole 0 t (ending unexpected) p m t₂
+    run_last : Upto s (run 64) 0 whole 0 t (ending unexpected) p m t₂
     run_last = upto_count (made_goes run_begun l goes_children (e₀ ∙ same_seat whole) refl h) (omega arith)
 
     -- The input ends behind the children.
-    pub run_ends : b ≡ 256 → {p₁ m₁ : ℕ} → p₁ ≡ p → m₁ ≡ m → Made (Got p₁ m₁) s (run d) 0 0 whole 0 t t₂
+    pub run_ends : b ≡ 256 → {p₁ m₁ : ℕ} → p₁ ≡ p → m₁ ≡ m → Made (Got p₁ m₁) s (run 64) 0 0 whole 0 t t₂
     run_ends x e₁ e₂ = rw (e₁, e₂) (ends run_last y x)
 
     -- It does not: a closing tag is there.
-    pub run_more : (b ≡ 256 → ⊥) → {p₁ p₂ : ℕ} → p₁ ≡ p → p₂ ≡ p → Made (No 3 p₁ p₂ 0 0) s (run d) 0 0 whole 0 t t₂
+    pub run_more : (b ≡ 256 → ⊥) → {p₁ p₂ : ℕ} → p₁ ≡ p → p₂ ≡ p → Made (No 3 p₁ p₂ 0 0) s (run 64) 0 0 whole 0 t t₂
     run_more x e₁ e₂ = rw (e₁, e₂) (ends_not run_last y x)
 
 pub ruleset run_steps = (rules, run_stops, run_ends, run_more)

@@ -1,18 +1,23 @@
 -- The first two tests, and a reply made of an answer: what each need of their functions follows from.
-use mathlib.Core.Path.{◌≡◌, sym, ap, subst, ◌∙◌}
+use mathlib.Core.Path.{◌≡◌, refl, sym, ap, subst, ◌∙◌}
+use mathlib.Core.Bool.{Bool}
 use mathlib.Core.List.{List}
 use Prim.Native.Nat.{ℕ, ◌≤◌, ◌<◌}
+use native.Mathlib.Omega.{arith}
 use lib.ListN.{length}
 use borrow.Author.Rules.{rules}
+use Rattle.rules.specs.Forest.{Forest}
+use Rattle.rules.specs.Rule.{Rule}
 use Rattle.rules.specs.Parse.{Answer, got, trouble, and_then, read_at, parse_all}
 use Rattle.jsx.specs.Utf8.{utf8}
-use Rattle.jsx.specs.Reading.{Limits}
+use Rattle.jsx.specs.Reading.{standard}
 use Rattle.jsx.specs.Compose.{IsGot, WellFormed}
 use Rattle.jsx.proofs.Calls.{too_long_lem, not_too_long}
-use Rattle.lex.specs.Contract.{nothing, Leaf}
+use Rattle.lex.specs.Contract.{out_of, nothing, Leaf}
 use Rattle.lex.specs.declared.Ans.{Ans}
 use Rattle.lex.specs.declared.Ans.TheVariants.{Got, No}
 use Rattle.lex.proofs.Laws as Lex
+use Rattle.stage.specs.declared.Reply.{Reply}
 use Rattle.stage.specs.declared.Reply.TheVariants.{Accepted, Refused}
 use Rattle.stage.specs.Call.{reply_of, Sound}
 
@@ -37,22 +42,23 @@ pub ruleset reply_steps = (rules, reply_got, reply_no)
 -- ---- the two tests
 
 -- An input that is too long is refused by 1.
-pub sound_long : (l : Limits) (s : List ℕ) → l.bytes < length s → Sound l (No 1 0 0 0 0) s
-sound_long l s h = record {
-  passed = λ p m e. Lex.none_got (λ p m. (length s ≤ l.bytes) × WellFormed s) p m e;
-  stopped = λ n a b c d e reading. too_long_lem l reading s h ∙ same e;
+pub sound_long : (s : List ℕ) → 1_048_576 < length s → Sound (No 1 0 0 0 0) s
+unfolding standard
+sound_long s h = record {
+  passed = λ p m e. Lex.none_got (λ p m. (length s ≤ 1_048_576) × WellFormed s) p m e;
+  stopped = λ n a b c d e reading. too_long_lem standard reading s h ∙ same e;
 }
   where
     same : {n a b c d : ℕ} → No 1 0 0 0 0 ≡ No n a b c d → trouble 1 0 0 0 0 ≡ trouble n a b c d
     same e = cc
 
 -- Any other is tested for UTF-8.
-pub sound_utf8 : (l : Limits) (s : List ℕ) {r : Ans} → length s ≤ l.bytes → Leaf nothing r s utf8 0 0 → Sound l r s
+pub sound_utf8 : (s : List ℕ) {r : Ans} → length s ≤ 1_048_576 → Leaf nothing r s utf8 0 0 → Sound r s
 unfolding WellFormed parse_all
-sound_utf8 l s {r} h v = record {
-  passed = λ p m e. (h, subst IsGot (sym (Lex.view_got nothing (read_at s utf8 0) v.is e).1) tt);
-  stopped = λ n a b c d e reading. not_too_long l reading s h
-      ∙ ap (λ (x : Answer). and_then x (λ a o p. parse_all (reading l.depth) s)) (Lex.leaf_no v e);
+sound_utf8 s {r} h l = record {
+  passed = λ p m e. (h, subst IsGot (sym (Lex.view_got nothing (read_at s utf8 0) l.is e).1) tt);
+  stopped = λ n a b c d e reading. not_too_long reading s h
+      ∙ ap (λ (x : Answer). and_then x (λ a o p. parse_all (reading 64) s)) (Lex.leaf_no l e);
 }
 
 pub ruleset sound_steps = (rules, sound_long, sound_utf8)

@@ -1,11 +1,11 @@
 -- Each promise allows one answer: specs/Tight.antt proved, statement by statement.
-use mathlib.Core.Path.{◌≡◌, sym, ap, ◌∙◌}
+use mathlib.Core.Path.{◌≡◌, refl, sym, ap, ◌∙◌}
 use mathlib.Core.List.{List, []}
 use Prim.Native.Nat.{ℕ}
 use Rattle.rules.specs.Rule.{Rule}
 use Rattle.rules.specs.Parse.{Answer, got, trouble}
-use Rattle.jsx.specs.Reading.{stage, run}
-use Rattle.jsx.specs.Table.{Outcome, accepted, refused}
+use Rattle.jsx.specs.Reading.{standard, stage, run}
+use Rattle.jsx.specs.Table.{Outcome, accepted, refused, check, read}
 use Rattle.stage.specs.declared.Reply.{Reply}
 use Rattle.stage.specs.declared.Reply.TheVariants.{Accepted, Refused}
 use Rattle.stage.specs.Call.{outcome, Numbered}
@@ -28,10 +28,10 @@ one_outcome (Refused x a b c d) (Refused x' a' b' c' d') t t' n n' e =
     of (trouble x a b c d) = Refused x a b c d
 
 one_check : {reading : ℕ → Rule} → OneAnswerOfCheck reading
-one_check l s r r' v w = (one_outcome r r' [] [] v.numbered w.numbered (v.is ∙ sym w.is)).0
+one_check s r r' v w = (one_outcome r r' [] [] v.numbered w.numbered (v.is ∙ sym w.is)).0
 
 one_read : {reading : ℕ → Rule} → OneAnswerOfRead reading
-one_read l s t r r' t₁ t₂ v w = one_outcome r r' t₁ t₂ v.numbered w.numbered (v.is ∙ sym w.is)
+one_read s t r r' t₁ t₂ v w = one_outcome r r' t₁ t₂ v.numbered w.numbered (v.is ∙ sym w.is)
 
 -- `check_stage` has one answer,
 pub one_answer_check_stage : OneAnswerOfCheck stage

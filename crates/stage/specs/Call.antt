@@ -2,7 +2,7 @@
 use Rattle.std.specs.Prelude.{ℕ, ◌≤◌, ◌≡◌, List, [], length}
 use Rattle.rules.specs.Rule.{Rule}
 use Rattle.rules.specs.Parse.{trouble}
-use Rattle.jsx.specs.Reading.{Limits, answer}
+use Rattle.jsx.specs.Reading.{standard, answer}
 use Rattle.jsx.specs.Table.{Outcome, missing, accepted, refused, check, read}
 use Rattle.jsx.specs.Compose.{WellFormed}
 use Rattle.lex.specs.declared.Ans.{Ans}
@@ -23,14 +23,14 @@ Numbered (Accepted m) = Unit {0}
 Numbered (Refused n a b c d) = 1 ≤ n
 
 -- What the check of a reading, `stage` or `run`, promises of its reply r on the input s: D: "Each has a check (counts
--- the records)". l: the limits that it goes by, document 01's or others; D2: "read with the limits set".
-pub record Checks (l : Limits) (reading : ℕ → Rule) (s : List ℕ) (r : Reply) : Type 0 where
-  pub is : outcome r [] ≡ check l reading s
+-- the records)".
+pub record Checks (reading : ℕ → Rule) (s : List ℕ) (r : Reply) : Type 0 where
+  pub is : outcome r [] ≡ check standard reading s
   pub numbered : Numbered r
 
 -- What its read promises, where it was lent the table t and leaves t': D: "and a read (also writes them)".
-pub record Reads (l : Limits) (reading : ℕ → Rule) (s t : List ℕ) (r : Reply) (t' : List ℕ) : Type 0 where
-  pub is : outcome r t' ≡ read l reading s t
+pub record Reads (reading : ℕ → Rule) (s t : List ℕ) (r : Reply) (t' : List ℕ) : Type 0 where
+  pub is : outcome r t' ≡ read standard reading s t
   pub numbered : Numbered r
 
 -- ---- inside the calls
@@ -45,6 +45,7 @@ abbrev pub whole : Seat
 whole = record { number = 0; parent = missing; depth = 0 }
 
 -- The first two tests of an input: they are passed, or every reading gives their refusal.
-pub record Sound (l : Limits) (r : Ans) (s : List ℕ) : Type 0 where
-  pub passed : (p m : ℕ) → r ≡ Got p m → (length s ≤ l.bytes) × WellFormed s
-  pub stopped : (n a b c d : ℕ) → r ≡ No n a b c d → (reading : ℕ → Rule) → answer l reading s ≡ trouble n a b c d
+pub record Sound (r : Ans) (s : List ℕ) : Type 0 where
+  pub passed : (p m : ℕ) → r ≡ Got p m → (length s ≤ 1_048_576) × WellFormed s
+  pub stopped : (n a b c d : ℕ) → r ≡ No n a b c d → (reading : ℕ → Rule)
+      → answer standard reading s ≡ trouble n a b c d

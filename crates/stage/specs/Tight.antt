@@ -4,22 +4,20 @@
 use Rattle.std.specs.Prelude.{ℕ, ◌≡◌, Bool, List}
 use Rattle.std.specs.Borrow.{Bor}
 use Rattle.rules.specs.Rule.{Rule}
-use Rattle.jsx.specs.Reading.{Limits}
 use Rattle.jsx.specs.Table.{Part}
 use Rattle.part.specs.Contract.{Answered}
 use Rattle.stage.specs.declared.Reply.{Reply}
 use Rattle.stage.specs.Call.{Checks, Reads}
 
--- `check_stage`, `check_run`, and those `_within` limits: the reply, which has number, places and count.
+-- `check_stage`, `check_run`: the reply, which has number, places and count.
 abbrev pub OneAnswerOfCheck : (reading : ℕ → Rule) → Type 0
-OneAnswerOfCheck reading = (l : Limits) (s : List ℕ) (r r' : Reply) → Checks l reading s r → Checks l reading s r'
-    → r ≡ r'
+OneAnswerOfCheck reading = (s : List ℕ) (r r' : Reply) → Checks reading s r → Checks reading s r' → r ≡ r'
 
--- `read_stage`, `read_run`, and those `_within` limits: the reply, and the whole table after it.
+-- `read_stage`, `read_run`: the reply, and the whole table after it.
 abbrev pub OneAnswerOfRead : (reading : ℕ → Rule) → Type 0
-OneAnswerOfRead reading = (l : Limits) (s t : List ℕ) (r r' : Reply) (t₁ t₂ : List ℕ)
-    → Reads l reading s t r t₁
-    → Reads l reading s t r' t₂
+OneAnswerOfRead reading = (s t : List ℕ) (r r' : Reply) (t₁ t₂ : List ℕ)
+    → Reads reading s t r t₁
+    → Reads reading s t r' t₂
     → (r ≡ r') × (t₁ ≡ t₂)
 
 -- `span_bytes`, `record_bytes`: whether there is such a part, its bytes, and where in memory they stand.

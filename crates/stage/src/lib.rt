@@ -1,13 +1,10 @@
-// The public calls: check and read of a stage and of a run, with document 01's limits or with others, and the bytes of
-// a record and of a span. Chapters 'The two readings', 'Refusal numbers' and 'The table'. No call asks anything of its
-// caller.
+// The public calls: check and read of a stage and of a run, and the bytes of a record and of a span. Chapters 'The two
+// readings', 'Refusal numbers' and 'The table'. No call asks anything of its caller.
 #![tactic(auto)]
 
 ghost use Rattle.std.specs.Prelude.{◌≡◌, ◌≤◌, length};
-ghost use Rattle.jsx.specs.Reading.{standard, stage, run};
-ghost use Rattle.jsx.specs.Settings.{capped};
+ghost use Rattle.jsx.specs.Reading.{stage, run};
 ghost use Rattle.jsx.specs.Table.{span_part, record_part};
-ghost use Rattle.settings.specs.Contract.{limits_of};
 ghost use Rattle.table.specs.Slot.{seat};
 ghost use Rattle.part.specs.Contract.{Answered};
 ghost use Rattle.table.specs.Reader.{Made};
@@ -16,8 +13,13 @@ ghost use Rattle.stage.specs.Call.{reply_of, whole as wholeSeat, Sound, Checks, 
 use lex::Ans;
 use lex::bytes::{END, LESS};
 use lex::refusal::{AFTER_STAGE, TABLE_TOO_SMALL, TOO_LONG, UNEXPECTED};
-use settings::Limits;
 use table::{MISSING, ROW_WORDS, Slot};
+
+// The most bytes of an input.
+pub const MOST_BYTES: usize = 1_048_576;
+
+// The most levels of depth.
+const DEPTH: usize = 64;
 
 // What a call answers.
 #[derive(Drop)]
@@ -39,10 +41,10 @@ fn to_reply(r: Ans) -> Reply
 }
 
 // The first two tests: the length, then UTF-8.
-fn sound(s: &[u8], l: Limits) -> Ans
-    ensures { Sound (limits_of l) result s.now }
+fn sound(s: &[u8]) -> Ans
+    ensures { Sound result s.now }
 {
-    if l.bytes < s.len() {
+    if MOST_BYTES < s.len() {
         return Ans::No(TOO_LONG, 0, 0, 0, 0);
     }
     utf8::utf8(s)
@@ -58,10 +60,10 @@ fn whole() -> Slot
     }
 }
 
-// The reading of a stage of at most d levels, with its rows at the front of the table.
-fn stage_into(s: &[u8], t: &mut [u32], d: usize) -> Ans
+// The reading of a stage, with its rows at the front of the table.
+fn stage_into(s: &[u8], t: &mut [u32]) -> Ans
     requires { length s.now ≤ 1_048_576 }
-    ensures { Made result s.now (stage d) 0 0 wholeSeat 0 t.old t.new }
+    ensures { Made result s.now (stage 64) 0 0 wholeSeat 0 t.old t.new }
 {
     let r = blank::skip_blanks(s, 0);
     let Ans::Got(p, _) = r else {
@@ -70,7 +72,7 @@ fn stage_into(s: &[u8], t: &mut [u32], d: usize) -> Ans
     if lex::byte(s, p) != LESS {
         return lex::unexpected(s, p);
     }
-    let r2 = reader::parse_jsx_element(t, s, p, AFTER_STAGE, d, whole());
+    let r2 = reader::parse_jsx_element(t, s, p, AFTER_STAGE, DEPTH, whole());
     let Ans::Got(e, m) = r2 else {
         return r2;
     };
@@ -84,12 +86,12 @@ fn stage_into(s: &[u8], t: &mut [u32], d: usize) -> Ans
     Ans::No(AFTER_STAGE, z, z, 0, 0)
 }
 
-// The reading of a run of at most d levels, with its rows at the front of the table.
-fn run_into(s: &[u8], t: &mut [u32], d: usize) -> Ans
+// The reading of a run, with its rows at the front of the table.
+fn run_into(s: &[u8], t: &mut [u32]) -> Ans
     requires { length s.now ≤ 1_048_576 }
-    ensures { Made result s.now (run d) 0 0 wholeSeat 0 t.old t.new }
+    ensures { Made result s.now (run 64) 0 0 wholeSeat 0 t.old t.new }
 {
-    let r = reader::parse_jsx_children(t, s, 0, d, whole());
+    let r = reader::parse_jsx_children(t, s, 0, DEPTH, whole());
     let Ans::Got(p, m) = r else {
         return r;
     };
@@ -99,94 +101,60 @@ fn run_into(s: &[u8], t: &mut [u32], d: usize) -> Ans
     Ans::No(UNEXPECTED, p, p, 0, 0)
 }
 
-// The check of a stage with the limits that are given: it counts its records.
-pub fn check_stage_within(s: &[u8], l: Limits) -> Reply
-    ensures { Checks (capped (limits_of l)) stage s.now result }
-{
-    let k = settings::capped(l);
-    let r = sound(s, k);
-    let Ans::Got(_, _) = r else {
-        return to_reply(r);
-    };
-    let mut none = [0u32; 0];
-    let r2 = stage_into(s, &mut none, k.depth);
-    to_reply(r2)
-}
-
-// The check of a stage with document 01's limits.
+// The check of a stage counts its records.
 pub fn check_stage(s: &[u8]) -> Reply
-    ensures { Checks standard stage s.now result }
+    ensures { Checks stage s.now result }
 {
-    check_stage_within(s, settings::standard())
-}
-
-// The check of a run with the limits that are given: it counts its records.
-pub fn check_run_within(s: &[u8], l: Limits) -> Reply
-    ensures { Checks (capped (limits_of l)) run s.now result }
-{
-    let k = settings::capped(l);
-    let r = sound(s, k);
+    let r = sound(s);
     let Ans::Got(_, _) = r else {
         return to_reply(r);
     };
     let mut none = [0u32; 0];
-    let r2 = run_into(s, &mut none, k.depth);
+    let r2 = stage_into(s, &mut none);
     to_reply(r2)
 }
 
-// The check of a run with document 01's limits.
+// The check of a run counts its records.
 pub fn check_run(s: &[u8]) -> Reply
-    ensures { Checks standard run s.now result }
+    ensures { Checks run s.now result }
 {
-    check_run_within(s, settings::standard())
-}
-
-// The read of a stage with the limits that are given: it writes its records. It checks first, so that a refusal writes
-// no word.
-pub fn read_stage_within(s: &[u8], t: &mut [u32], l: Limits) -> Reply
-    ensures { Reads (capped (limits_of l)) stage s.now t.old result t.new }
-{
-    let r = check_stage_within(s, l);
-    let Reply::Accepted(m) = r else {
-        return r;
+    let r = sound(s);
+    let Ans::Got(_, _) = r else {
+        return to_reply(r);
     };
-    if t.len() / ROW_WORDS < m {
-        return Reply::Refused(TABLE_TOO_SMALL, m, 0, 0, 0);
-    }
-    let k = settings::capped(l);
-    let r2 = stage_into(s, t, k.depth);
+    let mut none = [0u32; 0];
+    let r2 = run_into(s, &mut none);
     to_reply(r2)
 }
 
-// The read of a stage with document 01's limits.
+// The read of a stage writes its records; it checks first, so that a refusal writes no word.
 pub fn read_stage(s: &[u8], t: &mut [u32]) -> Reply
-    ensures { Reads standard stage s.now t.old result t.new }
+    ensures { Reads stage s.now t.old result t.new }
 {
-    read_stage_within(s, t, settings::standard())
-}
-
-// The read of a run with the limits that are given: it writes its records. It checks first, so that a refusal writes
-// no word.
-pub fn read_run_within(s: &[u8], t: &mut [u32], l: Limits) -> Reply
-    ensures { Reads (capped (limits_of l)) run s.now t.old result t.new }
-{
-    let r = check_run_within(s, l);
+    let r = check_stage(s);
     let Reply::Accepted(m) = r else {
         return r;
     };
     if t.len() / ROW_WORDS < m {
         return Reply::Refused(TABLE_TOO_SMALL, m, 0, 0, 0);
     }
-    let k = settings::capped(l);
-    let r2 = run_into(s, t, k.depth);
+    let r2 = stage_into(s, t);
     to_reply(r2)
 }
 
-// The read of a run with document 01's limits.
+// The read of a run writes its records; it checks first, so that a refusal writes no word.
 pub fn read_run(s: &[u8], t: &mut [u32]) -> Reply
-    ensures { Reads standard run s.now t.old result t.new }
+    ensures { Reads run s.now t.old result t.new }
 {
-    read_run_within(s, t, settings::standard())
+    let r = check_run(s);
+    let Reply::Accepted(m) = r else {
+        return r;
+    };
+    if t.len() / ROW_WORDS < m {
+        return Reply::Refused(TABLE_TOO_SMALL, m, 0, 0, 0);
+    }
+    let r2 = run_into(s, t);
+    to_reply(r2)
 }
 
 // The bytes from start to end, as the part of the input itself, and whether that is in range.

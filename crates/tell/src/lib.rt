@@ -4,8 +4,7 @@
 
 ghost use Rattle.std.specs.Prelude.{◌≤◌, ◌<◌, length};
 
-use settings::MOST_BYTES;
-use stage::Reply;
+use stage::{MOST_BYTES, Reply};
 use table::ROW_WORDS;
 
 // What a printed line has room for.

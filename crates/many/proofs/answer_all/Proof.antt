@@ -3,20 +3,17 @@ use Prim.Native.Nat.{◌*◌, ◌-◌, ◌≤◌}
 use lib.ListN.{length}
 use Rattle.rules.specs.Record.{row_words}
 use Rattle.print.specs.Answer.{text_room}
+use Rattle.many.proofs.Steps.{part_asked}
 use Rattle.many.proofs.answer_all.Statement.{statement}
 use Rattle.many.proofs.answer_all.Tie as tie
-use Rattle.many.proofs.Steps.{part_asked}
 
 abbrev invariant-loop : tie.invariant-loop
-invariant-loop item₀ t₀ out₀ k₀ l₀ item t out k l =
+invariant-loop item₀ t₀ out₀ k₀ item t out k =
     (1 ≤ length item) × (text_room 1_024 ≤ length out) × (length t ≤ row_words * 131_072) ×
     (length item ≡ length item₀) × (length t ≡ length t₀) × (length out ≡ length out₀)
 
 abbrev decreases-loop : tie.decreases-loop
-decreases-loop item₀ t₀ out₀ k₀ l₀ item t out k l = 4_611_686_018_427_387_904 - k
-
-standard-requires : tie.Need-standard-requires invariant-loop decreases-loop
-standard-requires c κs = search part_asked
+decreases-loop item₀ t₀ out₀ k₀ item t out k = 4_611_686_018_427_387_904 - k
 
 loop_holds : tie.Need-loop-init invariant-loop decreases-loop
 loop_holds c = search part_asked
@@ -60,8 +57,8 @@ returns_2 c = search part_asked
 enum-known-h : tie.Need-enum-known-h invariant-loop decreases-loop
 enum-known-h c = search part_asked
 
-take-item-requires : tie.Need-take-item-requires invariant-loop decreases-loop
-take-item-requires c κs = search part_asked
+take-bytes-requires : tie.Need-take-bytes-requires invariant-loop decreases-loop
+take-bytes-requires c κs = search part_asked
 
 write-bad-requires-2 : tie.Need-write-bad-requires-2 invariant-loop decreases-loop
 write-bad-requires-2 c κs = search part_asked
@@ -108,7 +105,6 @@ answer-all-spec =
     (tie.spec
     invariant-loop
     decreases-loop
-    standard-requires
     loop_holds
     read-head-requires
     enum_told
@@ -123,7 +119,7 @@ answer-all-spec =
     same-length-6
     returns_2
     enum-known-h
-    take-item-requires
+    take-bytes-requires
     write-bad-requires-2
     same-length-7
     same-length-8

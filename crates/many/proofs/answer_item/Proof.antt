@@ -1,6 +1,6 @@
+use Rattle.many.proofs.Steps.{answer_asked}
 use Rattle.many.proofs.answer_item.Statement.{statement}
 use Rattle.many.proofs.answer_item.Tie as tie
-use Rattle.many.proofs.Steps.{answer_asked}
 
 write-answer-requires : tie.Need-write-answer-requires
 write-answer-requires c κs = search answer_asked
@@ -14,18 +14,6 @@ same_length_2 c = search answer_asked
 returns : tie.Need-returns
 returns c = search answer_asked
 
-slice-aggregate-answer-store : tie.Need-slice-aggregate-answer-store
-slice-aggregate-answer-store c = search answer_asked
-
-answer-store-requires : tie.Need-answer-store-requires
-answer-store-requires c κs = search answer_asked
-
-same_length_3 : tie.Need-same-length-3
-same_length_3 c = search answer_asked
-
-returns_2 : tie.Need-returns-2
-returns_2 c = search answer_asked
-
 slice-aggregate-answer : tie.Need-slice-aggregate-answer
 slice-aggregate-answer c = search answer_asked
 
@@ -35,14 +23,14 @@ answer-requires c κs = search answer_asked
 write-answer-requires-2 : tie.Need-write-answer-requires-2
 write-answer-requires-2 c κs = search answer_asked
 
+same_length_3 : tie.Need-same-length-3
+same_length_3 c = search answer_asked
+
 same_length_4 : tie.Need-same-length-4
 same_length_4 c = search answer_asked
 
-same_length_5 : tie.Need-same-length-5
-same_length_5 c = search answer_asked
-
-returns_3 : tie.Need-returns-3
-returns_3 c = search answer_asked
+returns_2 : tie.Need-returns-2
+returns_2 c = search answer_asked
 
 pub answer-item-spec : {M : Type 1} → statement M
 answer-item-spec =
@@ -52,13 +40,9 @@ answer-item-spec =
     same_length
     same_length_2
     returns
-    slice-aggregate-answer-store
-    answer-store-requires
-    same_length_3
-    returns_2
     slice-aggregate-answer
     answer-requires
     write-answer-requires-2
+    same_length_3
     same_length_4
-    same_length_5
-    returns_3)
+    returns_2)
