@@ -3,7 +3,7 @@
 // lends is there.
 #![tactic(auto)]
 
-ghost use Rattle.jsx.specs.Reading.{stage as stageRule, run as runRule};
+ghost use Rattle.jsx.specs.Reading.{stage as stage_rule, run as run_rule};
 ghost use Rattle.jsx.specs.Table.{span_part, record_part};
 ghost use Rattle.abi.specs.Said.{Says, SaysOfCheck, SaysOfRead, SaysPart};
 
@@ -34,7 +34,7 @@ fn say(r: Reply, values: &mut [usize; 4]) -> u32
 // The check of a stage.
 #[unsafe(no_mangle)]
 pub extern "C" fn lorikvar_check_stage(s: &[u8], values: &mut [usize; 4]) -> u32
-    ensures { SaysOfCheck stageRule s.now result values.new }
+    ensures { SaysOfCheck stage_rule s.now result values.new }
 {
     say(stage::check_stage(s), values)
 }
@@ -42,7 +42,7 @@ pub extern "C" fn lorikvar_check_stage(s: &[u8], values: &mut [usize; 4]) -> u32
 // The check of a run.
 #[unsafe(no_mangle)]
 pub extern "C" fn lorikvar_check_run(s: &[u8], values: &mut [usize; 4]) -> u32
-    ensures { SaysOfCheck runRule s.now result values.new }
+    ensures { SaysOfCheck run_rule s.now result values.new }
 {
     say(stage::check_run(s), values)
 }
@@ -50,7 +50,7 @@ pub extern "C" fn lorikvar_check_run(s: &[u8], values: &mut [usize; 4]) -> u32
 // The read of a stage.
 #[unsafe(no_mangle)]
 pub extern "C" fn lorikvar_read_stage(s: &[u8], t: &mut [u32], values: &mut [usize; 4]) -> u32
-    ensures { SaysOfRead stageRule s.now t.old t.new result values.new }
+    ensures { SaysOfRead stage_rule s.now t.old t.new result values.new }
 {
     say(stage::read_stage(s, t), values)
 }
@@ -58,7 +58,7 @@ pub extern "C" fn lorikvar_read_stage(s: &[u8], t: &mut [u32], values: &mut [usi
 // The read of a run.
 #[unsafe(no_mangle)]
 pub extern "C" fn lorikvar_read_run(s: &[u8], t: &mut [u32], values: &mut [usize; 4]) -> u32
-    ensures { SaysOfRead runRule s.now t.old t.new result values.new }
+    ensures { SaysOfRead run_rule s.now t.old t.new result values.new }
 {
     say(stage::read_run(s, t), values)
 }

@@ -4,7 +4,7 @@
 ghost use Rattle.std.specs.Prelude.{◌≡◌, ◌+◌, ◌<◌, ◌≤◌, length};
 ghost use Rattle.rules.specs.Parse.{code_at};
 ghost use Rattle.jsx.specs.Byte.{is, ◌or◌, ◌‥◌};
-ghost use Rattle.jsx.specs.Blank.{blank_char, line_terminator, comment, line_comment, blanks, pass as passRule};
+ghost use Rattle.jsx.specs.Blank.{blank_char, line_terminator, comment, line_comment, blanks, pass as pass_rule};
 ghost use Rattle.lex.specs.Contract.{Leaf, Past, nothing};
 ghost use Rattle.lanes.specs.Lanes.{Marked};
 ghost use Rattle.lanes.specs.First.{First};
@@ -233,7 +233,7 @@ pub fn skip_blanks(s: &[u8], at: usize) -> Ans
 // Past the byte here and the blanks behind it; the number is 0.
 pub fn pass(s: &[u8], at: usize) -> Ans
     requires { at < length s.now }
-    ensures { Leaf nothing result s.now passRule at 1 }
+    ensures { Leaf nothing result s.now pass_rule at 1 }
 {
     skip_blanks(s, at + 1)
 }

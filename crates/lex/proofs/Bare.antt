@@ -14,7 +14,7 @@ use Rattle.rules.proofs.Run.{goes, Then, Lies, never, both, then_if, then_any, t
 use Rattle.rules.proofs.Run.{wide_got, lies_got}
 use Rattle.jsx.specs.Byte.{need}
 use Rattle.jsx.specs.Blank.{comment_turn, comment, line_turn, line_comment, blank, blanks}
-use Rattle.jsx.specs.Name.{part as namePart}
+use Rattle.jsx.specs.Name.{part as name_part}
 use Rattle.lex.specs.Contract.{bytes_from}
 
 -- Whether a rule makes no group: no `wrap` and no `paired` stands in it, what it only looks over aside.
@@ -121,8 +121,8 @@ direct_got s F t e at {o = o} {p} h g =
 -- ---- a name's part, and blanks
 
 -- A name's part makes no group.
-pub bare_part : bare namePart ≡ true
-unfolding bare namePart need
+pub bare_part : bare name_part ≡ true
+unfolding bare name_part need
 bare_part = refl
 
 -- Blanks make no group.
@@ -131,8 +131,8 @@ unfolding bare blanks blank comment comment_turn line_comment line_turn
 bare_blanks = refl
 
 -- A name's part goes on wherever it gets something.
-pub goes_part : goes namePart ≡ true
-unfolding goes namePart need
+pub goes_part : goes name_part ≡ true
+unfolding goes name_part need
 goes_part = refl
 
 -- Blanks go on wherever they get something.

@@ -6,7 +6,7 @@ ghost use Rattle.rules.specs.Forest.{node};
 ghost use Rattle.rules.specs.Rule.{many, ◌⨾◌};
 ghost use Rattle.jsx.specs.Kind as Kind;
 ghost use Rattle.jsx.specs.Blank.{blanks};
-ghost use Rattle.jsx.specs.Name.{dashed, is_this, opens_reference, one_name, object_name, part as namePart, other_part, dotted_part, dotted, element_name, attribute_name, namespaced, member};
+ghost use Rattle.jsx.specs.Name.{dashed, is_this, opens_reference, one_name, object_name, part as name_part, other_part, dotted_part, dotted, element_name, attribute_name, namespaced, member};
 ghost use Rattle.lex.specs.Contract.{Past, bytes_from};
 ghost use Rattle.table.specs.Slot.{seat};
 ghost use Rattle.table.specs.Contract.{Stored};
@@ -238,7 +238,7 @@ fn parse_dotted_parts(t: &mut [u32], s: &[u8], at: usize, slot: Slot) -> Ans
 
 // `part.part..`, whose first part ends at e.
 pub fn parse_jsx_member_expression(t: &mut [u32], s: &[u8], at: usize, e: usize, slot: Slot) -> Ans
-    requires { Room 3 s.now at (seat slot) × Past e s.now namePart at 1 }
+    requires { Room 3 s.now at (seat slot) × Past e s.now name_part at 1 }
     ensures { Made result s.now member at 1 (seat slot) 0 t.old t.new }
 {
     let inside = slot.inside();

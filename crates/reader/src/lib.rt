@@ -6,12 +6,12 @@ ghost use Rattle.std.specs.Prelude.{◌≡◌, ◌+◌, ◌≤◌, ◌<◌, ◌^
 ghost use Rattle.rules.specs.Rule.{many, ◌⨾◌};
 ghost use Rattle.rules.specs.Parse.{byte_at};
 ghost use Rattle.jsx.specs.Blank.{pass};
-ghost use Rattle.jsx.specs.Expression.{primary as primaryRule, postfix as postfixRule, postfix_turn, unary as unaryRule};
-ghost use Rattle.jsx.specs.Expression.{either as eitherRule, conditional, question, expression, argument_turn};
+ghost use Rattle.jsx.specs.Expression.{primary as primary_rule, postfix as postfix_rule, postfix_turn, unary as unary_rule};
+ghost use Rattle.jsx.specs.Expression.{either as either_rule, conditional, question, expression, argument_turn};
 ghost use Rattle.jsx.specs.Expression.{no_sibling};
-ghost use Rattle.jsx.specs.Braces.{container, spread as spreadRule};
-ghost use Rattle.jsx.specs.Tag.{value as valueRule, attribute, attributes};
-ghost use Rattle.jsx.specs.Element.{children as childrenRule, fragment_in, named_in};
+ghost use Rattle.jsx.specs.Braces.{container, spread as spread_rule};
+ghost use Rattle.jsx.specs.Tag.{value as value_rule, attribute, attributes};
+ghost use Rattle.jsx.specs.Element.{children as children_rule, fragment_in, named_in};
 ghost use Rattle.jsx.specs.Depth.{within};
 ghost use Rattle.lex.specs.Contract.{Past};
 ghost use Rattle.table.specs.Slot.{seat};
@@ -148,7 +148,7 @@ fn more(t: &mut [u32], s: &[u8], at: usize, d: usize, slot: Slot) -> Ans
 #[cycle(reading)]
 fn prim(t: &mut [u32], s: &[u8], at: usize, d: usize, slot: Slot) -> Ans
     requires { Room 3 s.now at (seat slot) }
-    ensures { Made result s.now (primaryRule (within d)) at 1 (seat slot) 0 t.old t.new }
+    ensures { Made result s.now (primary_rule (within d)) at 1 (seat slot) 0 t.old t.new }
 {
     let b = lex::byte(s, at);
     if word::opens_name(b) {
@@ -216,7 +216,7 @@ fn tails(t: &mut [u32], s: &[u8], at: usize, d: usize, slot: Slot) -> Ans
 #[cycle(reading)]
 fn postfix(t: &mut [u32], s: &[u8], at: usize, d: usize, slot: Slot) -> Ans
     requires { Room 3 s.now at (seat slot) }
-    ensures { Made result s.now (postfixRule (within d)) at 1 (seat slot) 0 t.old t.new }
+    ensures { Made result s.now (postfix_rule (within d)) at 1 (seat slot) 0 t.old t.new }
 {
     let r = prim(t, s, at, d, slot);
     let Ans::Got(e, k) = r else {
@@ -272,7 +272,7 @@ fn lone(t: &mut [u32], s: &[u8], at: usize, n: u32, d: usize, slot: Slot) -> Ans
 #[cycle(reading)]
 fn unary(t: &mut [u32], s: &[u8], at: usize, d: usize, slot: Slot) -> Ans
     requires { Room 3 s.now at (seat slot) }
-    ensures { Made result s.now (unaryRule (within d)) at 1 (seat slot) 0 t.old t.new }
+    ensures { Made result s.now (unary_rule (within d)) at 1 (seat slot) 0 t.old t.new }
 {
     let b = lex::byte(s, at);
     if b == BANG {
@@ -321,7 +321,7 @@ fn joins(t: &mut [u32], s: &[u8], at: usize, d: usize, slot: Slot) -> Ans
 #[cycle(reading)]
 fn either(t: &mut [u32], s: &[u8], at: usize, d: usize, slot: Slot) -> Ans
     requires { Room 3 s.now at (seat slot) }
-    ensures { Made result s.now (eitherRule (within d)) at 1 (seat slot) 0 t.old t.new }
+    ensures { Made result s.now (either_rule (within d)) at 1 (seat slot) 0 t.old t.new }
 {
     let r = unary(t, s, at, d, slot);
     let Ans::Got(e, k) = r else {
@@ -478,7 +478,7 @@ fn in_rest(t: &mut [u32], s: &[u8], at: usize, d: usize, slot: Slot) -> Ans
 #[cycle(reading)]
 fn spread(t: &mut [u32], s: &[u8], at: usize, q: usize, kind: usize, d: usize, slot: Slot) -> Ans
     requires { Room 3 s.now at (seat slot) × Past q s.now pass at 1 × (kind < 2 ^ 32) }
-    ensures { Made result s.now (spreadRule kind (within d)) at 3 (seat slot) 0
+    ensures { Made result s.now (spread_rule kind (within d)) at 3 (seat slot) 0
         t.old t.new }
 {
     let i = table::start(t.len(), ROW_WORDS);
@@ -496,7 +496,7 @@ fn spread(t: &mut [u32], s: &[u8], at: usize, q: usize, kind: usize, d: usize, s
 #[cycle(reading)]
 fn value(t: &mut [u32], s: &[u8], at: usize, d: usize, slot: Slot) -> Ans
     requires { Room 3 s.now at (seat slot) }
-    ensures { Made result s.now (valueRule (within d)) at 1 (seat slot) 0 t.old t.new }
+    ensures { Made result s.now (value_rule (within d)) at 1 (seat slot) 0 t.old t.new }
 {
     let b = lex::byte(s, at);
     if text::is_quote(b) {
@@ -745,7 +745,7 @@ fn child(t: &mut [u32], s: &[u8], at: usize, d: usize, slot: Slot) -> Ans
 #[cycle(reading)]
 fn children(t: &mut [u32], s: &[u8], at: usize, d: usize, slot: Slot) -> Ans
     requires { Room 3 s.now at (seat slot) }
-    ensures { Made result s.now (childrenRule (within d)) at 0 (seat slot) 0 t.old t.new }
+    ensures { Made result s.now (children_rule (within d)) at 0 (seat slot) 0 t.old t.new }
 {
     let mut p = at; // the last one ends here
     let mut m = 0; // as many records were made
@@ -787,7 +787,7 @@ pub fn parse_jsx_element(t: &mut [u32], s: &[u8], at: usize, n: u32, d: usize, s
 // Children, as many as there are.
 pub fn parse_jsx_children(t: &mut [u32], s: &[u8], at: usize, d: usize, slot: Slot) -> Ans
     requires { Room 3 s.now at (seat slot) }
-    ensures { Made result s.now (childrenRule (within d)) at 0 (seat slot) 0 t.old t.new }
+    ensures { Made result s.now (children_rule (within d)) at 0 (seat slot) 0 t.old t.new }
 {
     children(t, s, at, d, slot)
 }

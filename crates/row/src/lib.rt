@@ -6,7 +6,7 @@ ghost use Rattle.std.specs.Prelude.{◌≡◌, true, ◌-◌, ◌<◌, ◌≤◌
 ghost use Rattle.rules.specs.Parse.{byte_at};
 ghost use Rattle.rules.specs.Record.{row_words};
 ghost use Rattle.jsx.specs.Blank.{pass};
-ghost use Rattle.jsx.specs.Text.{in_text, text as textRule};
+ghost use Rattle.jsx.specs.Text.{in_text, text as text_rule};
 ghost use Rattle.jsx.specs.Braces.{empty_braces};
 ghost use Rattle.jsx.specs.Closing.{no_name};
 ghost use Rattle.jsx.specs.Kind as Kind;
@@ -62,7 +62,7 @@ pub fn put_opening(t: &mut [u32], at: usize, z: usize, m: usize, slot: Slot)
 // A text, whose first byte was seen, and its record.
 pub fn text(t: &mut [u32], s: &[u8], at: usize, slot: Slot) -> Ans
     requires { Room 3 s.now at (seat slot) × (in_text (byte_at s.now at) ≡ true) }
-    ensures { Made result s.now textRule at 1 (seat slot) 0 t.old t.new }
+    ensures { Made result s.now text_rule at 1 (seat slot) 0 t.old t.new }
 {
     let e = text::read_jsx_text(s, at);
     put_plain(t, TEXT, at, e, 0, slot);

@@ -7,7 +7,7 @@ use borrow.Author.Rules.{rules}
 use Rattle.rules.specs.Parse.{code_at}
 use Rattle.rules.proofs.Got.{trouble_got}
 use Rattle.jsx.specs.Blank.{blanks}
-use Rattle.jsx.specs.Name.{opens_part, part as namePart}
+use Rattle.jsx.specs.Name.{opens_part, part as name_part}
 use Rattle.lex.specs.Contract.{nothing, Leaf, Past}
 use Rattle.lex.specs.declared.Ans.{Ans}
 use Rattle.lex.specs.declared.Ans.TheVariants.{Got, No}
@@ -17,7 +17,7 @@ use Rattle.word.proofs.Again.{part_opens}
 use Rattle.same.specs.Contract.{ReadsAt}
 
 -- The first character of a part that was read opens one.
-pub part_opened : (s : List ℕ) (at : ℕ) → ReadsAt s namePart at → opens_part (code_at s at) ≡ true
+pub part_opened : (s : List ℕ) (at : ℕ) → ReadsAt s name_part at → opens_part (code_at s at) ≡ true
 part_opened s at v = part_opens s at v.to v.read
 
 -- Blanks that were read can't be refused.

@@ -18,7 +18,7 @@ use Rattle.jsx.specs.Kind as Kind
 use Rattle.jsx.specs.Byte.{is, expect}
 use Rattle.jsx.specs.Blank.{blanks}
 use Rattle.jsx.specs.Name.{has, first_is, dashed, is_this, opens_reference, one_name, object_name}
-use Rattle.jsx.specs.Name.{part as namePart, other_part, dotted, element_name}
+use Rattle.jsx.specs.Name.{part as name_part, other_part, dotted, element_name}
 use Rattle.jsx.specs.Closing.{nodes_of, several_parts, parts_of, all_same, same_name}
 use Rattle.jsx.proofs.Again.{node_around, one_part_of, other_part_of, object_of, element_name_once}
 use Rattle.lex.specs.Contract.{out_of, bytes_from, Past}
@@ -115,10 +115,10 @@ around_got k x h =
     let g = got_same y.4 in
     (y.1, y.3 ∙ (λ i. got (g.0 i) y.1 (g.2 i)), sym g.1)
 
-module _ (s : List ℕ) (a b e q : ℕ) {w v : Forest} (n : Named s a b) (h : read_at s namePart a ≡ got true w e)
+module _ (s : List ℕ) (a b e q : ℕ) {w v : Forest} (n : Named s a b) (h : read_at s name_part a ≡ got true w e)
     (k : read_at s blanks e ≡ got true v q) where
   first : direct w ≡ bytes_to s a e
-  first = direct_got s (suc (length s)) namePart 0 a bare_part h
+  first = direct_got s (suc (length s)) name_part 0 a bare_part h
 
   as_pair : is ":" (byte_at s q) ≡ true
       → node_around 6 (behind (other_part_of w) (behind v (read_at s (expect ":" ⨾ blanks ⨾ other_part) q)))
@@ -196,20 +196,20 @@ module _ {s : List ℕ} {a b : ℕ} (n : Named s a b) where
       × (e : ℕ)
       × (v : Forest)
       × (q : ℕ)
-      × (read_at s namePart a ≡ got true w e)
+      × (read_at s name_part a ≡ got true w e)
       × (read_at s blanks e ≡ got true v q)
   unfolding element_name parse
   look =
-      let y = then_got (parsed s (namePart ⨾ blanks) 0 a) _ n.read in
-      let x = going s (suc (length s)) (namePart ⨾ blanks) 0 a Names.goes_look y.3 in
-      let z = both_read s (suc (length s)) namePart blanks 0 a x in
+      let y = then_got (parsed s (name_part ⨾ blanks) 0 a) _ n.read in
+      let x = going s (suc (length s)) (name_part ⨾ blanks) 0 a Names.goes_look y.3 in
+      let z = both_read s (suc (length s)) name_part blanks 0 a x in
       (z.0, z.1, z.2, y.2, z.3, z.4)
 
   -- A part begins it.
-  pub begins : ReadsAt s namePart a
+  pub begins : ReadsAt s name_part a
   begins = Names.reads s (Names.begins_inside s n) look.4
 
-  module _ {e : ℕ} (h : Past e s namePart a 1) where
+  module _ {e : ℕ} (h : Past e s name_part a 1) where
     -- Blanks were read behind the part.
     pub blanks_behind : ReadsAt s blanks e
     blanks_behind =

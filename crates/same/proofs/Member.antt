@@ -11,7 +11,7 @@ use Rattle.rules.specs.Forest.{Forest}
 use Rattle.rules.specs.Rule.{many}
 use Rattle.rules.specs.Parse.{got, byte_at, read_at}
 use Rattle.jsx.specs.Blank.{blanks}
-use Rattle.jsx.specs.Name.{same, part as namePart, dotted}
+use Rattle.jsx.specs.Name.{same, part as name_part, dotted}
 use Rattle.jsx.specs.Closing.{nodes_of, all_same}
 use Rattle.lex.specs.Contract.{Past}
 use Rattle.same.specs.Contract.{ReadsAt, ReadTo, behind_dot, parts_from, same_parts}
@@ -42,14 +42,14 @@ module _ {s : List ℕ} {x b : ℕ} (h : ReadTo s behind_dot x b) where
     there : part.i ≡ i
     there = Names.past_same s part.passed k
 
-    here : read_at s namePart i ≡ got true part.w part.e
-    here = ap (λ (z : ℕ). read_at s namePart z) (sym there) ∙ part.read
+    here : read_at s name_part i ≡ got true part.w part.e
+    here = ap (λ (z : ℕ). read_at s name_part z) (sym there) ∙ part.read
 
     -- A part was read behind the blanks.
-    pub dot_part : ReadsAt s namePart i
+    pub dot_part : ReadsAt s name_part i
     dot_part = Names.reads s k.far.1 here
 
-    module _ {e : ℕ} (l : Past e s namePart i 1) where
+    module _ {e : ℕ} (l : Past e s name_part i 1) where
       part_ends : part.e ≡ e
       part_ends = Names.past_same s here l
 

@@ -7,7 +7,7 @@ use lib.Dec.{eqb}
 use borrow.Author.Rules.{rules}
 use borrow.Author.Tests.{not-true, not-false}
 use Rattle.jsx.specs.Blank.{blanks}
-use Rattle.jsx.specs.Name.{same, part as namePart}
+use Rattle.jsx.specs.Name.{same, part as name_part}
 use Rattle.lex.specs.Contract.{Past}
 use Rattle.same.specs.Contract.{ReadsAt, ReadTo, behind_dot, same_parts}
 use Rattle.same.proofs.Forms.{bytes_to}
@@ -27,7 +27,7 @@ left_begin g h = record { first = g; second = h; so = refl }
 
 module _ {s : List ℕ} {p b q d x y : ℕ} (v : Left s p b q d x y)
     {i : ℕ} (k : Past i s blanks x 0) {j : ℕ} (k₂ : Past j s blanks y 0)
-    {g : ℕ} (l : Past g s namePart i 1) {h : ℕ} (l₂ : Past h s namePart j 1)
+    {g : ℕ} (l : Past g s name_part i 1) {h : ℕ} (l₂ : Past h s name_part j 1)
     {r : Bool} (e : r ≡ same (bytes_to s i g) (bytes_to s j h)) where
   after_first : Member.After s x b i g (Member.part_blanks v.first k l).to
   after_first = Member.after_there v.first k l
@@ -72,11 +72,11 @@ module _ {s : List ℕ} {x b : ℕ} (h : ReadTo s behind_dot x b) {u : List ℕ}
 
   module _ {i : ℕ} (k : Past i s blanks x 0) where
     -- A part was read behind those.
-    pub dot_part : u ≡ s → y ≡ i → ReadsAt u namePart y
+    pub dot_part : u ≡ s → y ≡ i → ReadsAt u name_part y
     dot_part f g = rw (f, g) (Member.dot_part h k)
 
     -- Blanks were read behind the part.
-    pub part_blanks : {e : ℕ} → Past e s namePart i 1 → u ≡ s → y ≡ e → ReadsAt u blanks y
+    pub part_blanks : {e : ℕ} → Past e s name_part i 1 → u ≡ s → y ≡ e → ReadsAt u blanks y
     part_blanks l f g = rw (f, g) (Member.part_blanks h k l)
 
 pub ruleset member_steps = (rules, left_begin, turn_differs, turn_first_over, turn_second_over, turn_goes_on)

@@ -12,7 +12,7 @@ use Rattle.rules.specs.Parse.{byte_at}
 use Rattle.rules.proofs.Local.{up_got}
 use Rattle.jsx.specs.Kind as Kind
 use Rattle.jsx.specs.Blank.{blanks}
-use Rattle.jsx.specs.Name.{same, part as namePart, element_name}
+use Rattle.jsx.specs.Name.{same, part as name_part, element_name}
 use Rattle.lex.specs.Contract.{Past}
 use Rattle.same.specs.Contract.{ReadsAt, ReadTo, Named, behind_colon, behind_dot, same_parts}
 use Rattle.same.proofs.Forms.{bytes_to, Several, begins, blanks_behind, form_there, form_at}
@@ -40,15 +40,15 @@ same_spans n n₂ g z =
 
 module _ {s : List ℕ} {a b : ℕ} (n : Named s a b) {u : List ℕ} {y : ℕ} where
   -- A part begins it.
-  pub name_begins : u ≡ s → y ≡ a → ReadsAt u namePart y
+  pub name_begins : u ≡ s → y ≡ a → ReadsAt u name_part y
   name_begins f g = rw (f, g) (begins n)
 
   -- Blanks were read behind the part.
-  pub name_blanks : {e : ℕ} → Past e s namePart a 1 → u ≡ s → y ≡ e → ReadsAt u blanks y
+  pub name_blanks : {e : ℕ} → Past e s name_part a 1 → u ≡ s → y ≡ e → ReadsAt u blanks y
   name_blanks l f g = rw (f, g) (blanks_behind n l)
 
 -- What is behind its separator.
-module _ {s : List ℕ} {a b : ℕ} (n : Named s a b) {e : ℕ} (l : Past e s namePart a 1) (o : e ≡ b → ⊥)
+module _ {s : List ℕ} {a b : ℕ} (n : Named s a b) {e : ℕ} (l : Past e s name_part a 1) (o : e ≡ b → ⊥)
     {p : ℕ} (k : Past p s blanks e 0) where
   colon_there : byte_at s p ≡ code ":" → Several s a b e p Kind.namespaced behind_colon
   colon_there = Equal.by_colon (form_at n l k) o
@@ -78,7 +78,7 @@ module _ {s : List ℕ} {a b : ℕ} (n : Named s a b) {e : ℕ} (l : Past e s na
 -- ---- two names
 
 module _ {s : List ℕ} {a b c d : ℕ} (n : Named s a b) (n₂ : Named s c d)
-    {e : ℕ} (l : Past e s namePart a 1) {f : ℕ} (l₂ : Past f s namePart c 1) where
+    {e : ℕ} (l : Past e s name_part a 1) {f : ℕ} (l₂ : Past f s name_part c 1) where
   module _ {r : Bool} (g : r ≡ same (bytes_to s a e) (bytes_to s c f)) where
     -- The first parts differ.
     pub first_differs : not r ≡ true → false ≡ equal s a c
@@ -102,7 +102,7 @@ module _ {s : List ℕ} {a b c d : ℕ} (n : Named s a b) (n₂ : Named s c d)
 
 -- The first parts are the same, and so are the separators: what is behind decides.
 module _ {s : List ℕ} {a b c d : ℕ} (n : Named s a b) (n₂ : Named s c d)
-    {e : ℕ} (l : Past e s namePart a 1) {f : ℕ} (l₂ : Past f s namePart c 1)
+    {e : ℕ} (l : Past e s name_part a 1) {f : ℕ} (l₂ : Past f s name_part c 1)
     {r : Bool} (g : r ≡ same (bytes_to s a e) (bytes_to s c f)) (z : not r ≡ false) (o : e ≡ b → ⊥) (o₂ : f ≡ d → ⊥)
     {p : ℕ} (k : Past p s blanks e 0) {q : ℕ} (k₂ : Past q s blanks f 0)
     {x : ℕ} (v : x ≡ byte_at s p) {y : ℕ} (v₂ : y ≡ byte_at s q) (w : x ≡ y) {E : Bool} where

@@ -22,7 +22,7 @@ use Rattle.rules.proofs.Again.{two_got}
 use Rattle.jsx.specs.Kind as Kind
 use Rattle.jsx.specs.Byte.{is, need, expect}
 use Rattle.jsx.specs.Blank.{blanks}
-use Rattle.jsx.specs.Name.{has, dashed, part as namePart, other_part, dotted_part, dotted}
+use Rattle.jsx.specs.Name.{has, dashed, part as name_part, other_part, dotted_part, dotted}
 use Rattle.jsx.specs.Closing.{nodes_of}
 use Rattle.jsx.proofs.Again.{other_part_of, dotted_once}
 use Rattle.lex.specs.Contract.{out_of, bytes_from, Past}
@@ -34,12 +34,12 @@ use Rattle.same.proofs.Nodes.{nodes_flat, nodes_join}
 -- ---- rules
 
 -- A name's first part and the blanks behind it, which its rule looks over, go on.
-pub goes_look : goes (namePart ⨾ blanks) ≡ true
-unfolding goes namePart need blanks
+pub goes_look : goes (name_part ⨾ blanks) ≡ true
+unfolding goes name_part need blanks
 goes_look = refl
 
 goes_turn : goes (expect "." ⨾ blanks ⨾ dotted_part) ≡ true
-unfolding goes expect need blanks dotted_part other_part namePart
+unfolding goes expect need blanks dotted_part other_part name_part
 goes_turn = refl
 
 module _ (s : List ℕ) where
@@ -132,23 +132,23 @@ module _ (s : List ℕ) where
   -- ---- parts
 
   -- A part in a group of its own.
-  nodes_other : (at : ℕ) {p : ℕ} {w : Forest} → read_at s namePart at ≡ got true w p
+  nodes_other : (at : ℕ) {p : ℕ} {w : Forest} → read_at s name_part at ≡ got true w p
       → nodes_of (other_part_of w) ≡ bytes_from s at (p - at) ∷ []
   unfolding nodes_of
-  nodes_other at h = ap (λ (l : List ℕ). l ∷ []) (direct_got s (suc (length s)) namePart 0 at bare_part h)
+  nodes_other at h = ap (λ (l : List ℕ). l ∷ []) (direct_got s (suc (length s)) name_part 0 at bare_part h)
 
   -- A part that was read in some group.
   pub record OnePart (at p : ℕ) (u : Forest) : Type 0 where
     pub w : Forest
-    pub read : read_at s namePart at ≡ got true w p
+    pub read : read_at s name_part at ≡ got true w p
     pub nodes : nodes_of u ≡ bytes_from s at (p - at) ∷ []
 
   -- Another part that was read is one node, with its bytes.
   pub other_read : (e at : ℕ) {u : Forest} {p : ℕ} → parsed s other_part e at ≡ got true u p → OnePart at p u
   unfolding other_part
   other_read e at h =
-      let y = wrap_read s (suc (length s)) (λ o. node Kind.other_part (dashed (direct o))) namePart e at h in
-      let k = any_mark s (suc (length s)) namePart e 0 at y.1 in
+      let y = wrap_read s (suc (length s)) (λ o. node Kind.other_part (dashed (direct o))) name_part e at h in
+      let k = any_mark s (suc (length s)) name_part e 0 at y.1 in
       record { w = y.0; read = k; nodes = ap nodes_of y.2 ∙ nodes_other at k }
 
   -- So is a part behind a dot.
@@ -175,7 +175,7 @@ module _ (s : List ℕ) where
     pub passed : read_at s blanks x ≡ got true v i
     pub e : ℕ
     pub w : Forest
-    pub read : read_at s namePart i ≡ got true w e
+    pub read : read_at s name_part i ≡ got true w e
     pub u : Forest
     pub rest : read_at s (many dotted) e ≡ got true u b
     pub parts : parts_from s behind_dot x ≡ bytes_from s i (e - i) ∷ nodes_of u

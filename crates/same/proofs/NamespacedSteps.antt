@@ -9,7 +9,7 @@ use Rattle.rules.specs.Parse.{got, read_at}
 use Rattle.rules.proofs.Got.{got_same}
 use Rattle.rules.proofs.Local.{up_got}
 use Rattle.jsx.specs.Blank.{blanks}
-use Rattle.jsx.specs.Name.{same, part as namePart, other_part}
+use Rattle.jsx.specs.Name.{same, part as name_part, other_part}
 use Rattle.jsx.specs.Closing.{all_same}
 use Rattle.lex.specs.Contract.{out_of, Past}
 use Rattle.same.specs.Contract.{ReadsAt, ReadTo, behind_colon, parts_from, same_parts}
@@ -39,7 +39,7 @@ module _ {s : List ℕ} {x b : ℕ} (h : ReadTo s behind_colon x b) where
     one_part_lem = Names.other_read s 0 i second
 
     -- A part was read behind the blanks, and ends the name.
-    pub colon_part : ReadsAt s namePart i
+    pub colon_part : ReadsAt s name_part i
     colon_part = Names.reads s k.far.1 one_part_lem.read
 
     -- It ends where the name does.

@@ -17,7 +17,7 @@ use Rattle.rules.proofs.Flow.{advances}
 use Rattle.rules.proofs.Advance.{advance}
 use Rattle.jsx.specs.Byte.{is, ◌‥◌, need}
 use Rattle.jsx.specs.Blank.{blanks}
-use Rattle.jsx.specs.Name.{same, opens_name, opens_part, part as namePart}
+use Rattle.jsx.specs.Name.{same, opens_name, opens_part, part as name_part}
 use Rattle.lex.specs.Contract.{Past}
 use Rattle.lex.proofs.Ranges.{in_range}
 use Rattle.character.proofs.CodeSteps.{code_alone}
@@ -42,11 +42,11 @@ module _ {s : List ℕ} {at : ℕ} where
       let i = up_got s (suc (length s)) blanks 0 at r.read in
       record { is = r.read; far = (omega arith, top_got s (suc (length s)) blanks 0 at r.inside r.read) }
 
-  part_to : (r : ReadsAt s namePart at) → Past r.to s namePart at 1
-  unfolding advances namePart need
+  part_to : (r : ReadsAt s name_part at) → Past r.to s name_part at 1
+  unfolding advances name_part need
   part_to r =
-      let i = advance s (suc (length s)) namePart refl 0 at _ _ r.read in
-      record { is = r.read; far = (omega arith, top_got s (suc (length s)) namePart 0 at r.inside r.read) }
+      let i = advance s (suc (length s)) name_part refl 0 at _ _ r.read in
+      record { is = r.read; far = (omega arith, top_got s (suc (length s)) name_part 0 at r.inside r.read) }
 
 -- ---- the character behind blanks
 
@@ -68,7 +68,7 @@ module _ (s : List ℕ) (p b : ℕ) where
   edge_dot e l = edge_byte (code ".") e refl refl l
 
   -- and a part's first character.
-  edge_part : {e : ℕ} → Past e s namePart p 1 → e ≤ b → Edge s p b
+  edge_part : {e : ℕ} → Past e s name_part p 1 → e ≤ b → Edge s p b
   unfolding ends
   edge_part {e} l le =
       let o = part_opens s p e l.is in
@@ -133,7 +133,7 @@ record Step (s : List ℕ) (x b : ℕ) : Type 0 where
   e : ℕ
   q : ℕ
   passed : Past i s blanks x 0
-  part : Past e s namePart i 1
+  part : Past e s name_part i 1
   behind : Past q s blanks e 0
   after : After s x b i e q
 
@@ -217,7 +217,7 @@ module _ {s : List ℕ} {a b c d : ℕ} (v : Twins s a b c d) where
 record Start (s : List ℕ) (a b : ℕ) : Type 0 where
   e : ℕ
   q : ℕ
-  part : Past e s namePart a 1
+  part : Past e s name_part a 1
   behind : Past q s blanks e 0
   form : Form s a b e q
 

@@ -21,7 +21,7 @@ use Rattle.rules.proofs.Reach.{reach}
 use Rattle.jsx.specs.Byte.{is, ◌or◌, ◌‥◌, letter, character}
 use Rattle.jsx.specs.Blank.{comment_turn, comment, line_turn, line_comment, blank, blanks}
 use Rattle.jsx.specs.Name as Name
-use Rattle.jsx.specs.Name.{opens_name, part as namePart}
+use Rattle.jsx.specs.Name.{opens_name, part as name_part}
 use Rattle.lex.specs.Contract.{bytes_from, Past}
 use Rattle.lex.proofs.SameBytes.{length_part}
 use Rattle.character.specs.Width.{width_of}
@@ -208,9 +208,9 @@ module _ {s : List ℕ} {a b c d : ℕ} (v : Twins s a b c d) where
 
 -- Parts of names in the two spans end at twins.
 pub part_twin : {s : List ℕ} {a b c d : ℕ} → Twins s a b c d → {x y e f : ℕ} → x + c ≡ y + a → a ≤ x
-    → Past e s namePart x 1
+    → Past e s name_part x 1
     → e ≤ b
-    → Past f s namePart y 1
+    → Past f s name_part y 1
     → f ≤ d
     → e + c ≡ f + a
 part_twin {s} {a} {b} {c} {d} v {x} {y} {e} {f} tw lo l le m le₂ =

@@ -4,7 +4,7 @@
 ghost use Rattle.std.specs.Prelude.{◌≡◌, ◌-◌, ◌≤◌, length};
 ghost use Rattle.rules.specs.Parse.{read_at};
 ghost use Rattle.jsx.specs.Blank.{blanks};
-ghost use Rattle.jsx.specs.Name.{same, element_name, part as namePart};
+ghost use Rattle.jsx.specs.Name.{same, element_name, part as name_part};
 ghost use Rattle.lex.specs.Contract.{out_of, bytes_from, Past};
 ghost use Rattle.same.specs.Contract.{ReadsAt, ReadTo, Named, same_names, behind_colon, behind_dot, same_parts};
 
@@ -25,8 +25,8 @@ pub fn same_bytes(s: &[u8], a: usize, b: usize, c: usize, e: usize) -> bool
 
 // The end of a part that was read before.
 fn part_end(s: &[u8], at: usize) -> usize
-    requires { ReadsAt s.now namePart at }
-    ensures { Past result s.now namePart at 1 }
+    requires { ReadsAt s.now name_part at }
+    ensures { Past result s.now name_part at 1 }
 {
     word::continue_lex_jsx_identifier(s, at)
 }

@@ -3,8 +3,8 @@
 
 ghost use Rattle.std.specs.Prelude.{◌≡◌, ◌<◌, ◌^◌, length, drop};
 ghost use Rattle.rules.specs.Parse.{byte_at};
-ghost use Rattle.jsx.specs.Reading.{standard as standardLimits};
-ghost use Rattle.jsx.specs.Settings.{settings as settingsOf, held as heldBehind, capped as cappedLimits, least};
+ghost use Rattle.jsx.specs.Reading.{standard as standard_limits};
+ghost use Rattle.jsx.specs.Settings.{settings as settings_of, held as held_behind, capped as capped_limits, least};
 ghost use Rattle.jsx.specs.Settings.{other_than, marks_other, size_of, is_cut, length_in, depth_set, length_set, judged};
 ghost use Rattle.settings.specs.Contract.{limits_of, settled_of};
 
@@ -48,7 +48,7 @@ pub enum Settled {
 
 // Document 01's limits.
 pub fn standard() -> Limits
-    ensures { limits_of result ≡ standardLimits }
+    ensures { limits_of result ≡ standard_limits }
 {
     Limits {
         depth: MOST_DEPTH,
@@ -68,7 +68,7 @@ fn at_most(n: usize, most: usize) -> usize
 
 // A limit above document 01's counts as document 01's.
 pub fn capped(l: Limits) -> Limits
-    ensures { limits_of result ≡ cappedLimits (limits_of l) }
+    ensures { limits_of result ≡ capped_limits (limits_of l) }
 {
     Limits {
         depth: at_most(l.depth, MOST_DEPTH),
@@ -191,7 +191,7 @@ fn judge(s: &[u8], at: usize, l: Limits) -> Settled
 
 // The limits that a store sets, or its refusal.
 pub fn settings(s: &[u8]) -> Settled
-    ensures { settled_of result ≡ settingsOf s.now }
+    ensures { settled_of result ≡ settings_of s.now }
 {
     let mut l = standard();
     let mut at = 0;
@@ -208,7 +208,7 @@ pub fn settings(s: &[u8]) -> Settled
 
 // The limits that hold behind a store: its own, or document 01's where it is refused.
 pub fn held(r: Settled) -> Limits
-    ensures { limits_of result ≡ heldBehind (settled_of r) }
+    ensures { limits_of result ≡ held_behind (settled_of r) }
 {
     match r {
         Settled::Set(l) => l,

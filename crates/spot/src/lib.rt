@@ -2,7 +2,7 @@
 #![tactic(auto)]
 
 ghost use Rattle.std.specs.Prelude.{◌≡◌, ◌+◌, ◌≤◌, ◌<◌, ◌^◌, length};
-ghost use Rattle.spot.specs.Spot.{ends_line, continues as inCharacter, spot_at, LineEnd};
+ghost use Rattle.spot.specs.Spot.{ends_line, continues as in_character, spot_at, LineEnd};
 
 use lex::bytes::{CR, LF};
 
@@ -38,7 +38,7 @@ pub fn ends_line(s: &[u8], i: usize) -> bool
 
 // Whether a byte goes on with the character before it.
 pub fn continues(b: u32) -> bool
-    ensures { result ≡ inCharacter b }
+    ensures { result ≡ in_character b }
 {
     if b < CONTINUATION {
         return false;

@@ -8,7 +8,7 @@ ghost use Rattle.jsx.specs.Table.{span_part, record_part};
 ghost use Rattle.table.specs.Slot.{seat};
 ghost use Rattle.part.specs.Contract.{Answered};
 ghost use Rattle.table.specs.Reader.{Made};
-ghost use Rattle.stage.specs.Call.{reply_of, whole as wholeSeat, Sound, Checks, Reads};
+ghost use Rattle.stage.specs.Call.{reply_of, whole as whole_seat, Sound, Checks, Reads};
 
 use lex::Ans;
 use lex::bytes::{END, LESS};
@@ -52,7 +52,7 @@ fn sound(s: &[u8]) -> Ans
 
 // The front of the table, in no record.
 fn whole() -> Slot
-    ensures { seat result ≡ wholeSeat }
+    ensures { seat result ≡ whole_seat }
 {
     Slot {
         here: 0,
@@ -63,7 +63,7 @@ fn whole() -> Slot
 // The reading of a stage, with its rows at the front of the table.
 fn stage_into(s: &[u8], t: &mut [u32]) -> Ans
     requires { length s.now ≤ 1_048_576 }
-    ensures { Made result s.now (stage 64) 0 0 wholeSeat 0 t.old t.new }
+    ensures { Made result s.now (stage 64) 0 0 whole_seat 0 t.old t.new }
 {
     let r = blank::skip_blanks(s, 0);
     let Ans::Got(p, _) = r else {
@@ -89,7 +89,7 @@ fn stage_into(s: &[u8], t: &mut [u32]) -> Ans
 // The reading of a run, with its rows at the front of the table.
 fn run_into(s: &[u8], t: &mut [u32]) -> Ans
     requires { length s.now ≤ 1_048_576 }
-    ensures { Made result s.now (run 64) 0 0 wholeSeat 0 t.old t.new }
+    ensures { Made result s.now (run 64) 0 0 whole_seat 0 t.old t.new }
 {
     let r = reader::parse_jsx_children(t, s, 0, DEPTH, whole());
     let Ans::Got(p, m) = r else {

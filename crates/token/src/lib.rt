@@ -8,8 +8,8 @@ ghost use Rattle.jsx.specs.Blank.{pass};
 ghost use Rattle.jsx.specs.Depth.{element_too_deep};
 ghost use Rattle.lex.specs.Contract.{Leaf, Past, nothing};
 ghost use Rattle.tag.specs.Token.{goes_on};
-ghost use Rattle.token.specs.Token.{once, twice, operator_here, operator as operatorRule};
-ghost use Rattle.token.specs.Token.{suffixed, comma as commaRule, assigned, attribute_at};
+ghost use Rattle.token.specs.Token.{once, twice, operator_here, operator as operator_rule};
+ghost use Rattle.token.specs.Token.{suffixed, comma as comma_rule, assigned, attribute_at};
 ghost use Rattle.token.specs.Token.{parted, dots_on, shut_braces, dot_word};
 
 use lex::Ans;
@@ -73,7 +73,7 @@ fn operator_here(s: &[u8], at: usize) -> Ans
 // Blanks, an operator and blanks, and the number is 1; or it is 0, no operator follows, and nothing is passed.
 pub fn operator(s: &[u8], at: usize) -> Ans
     requires { at ≤ length s.now }
-    ensures { Leaf goes_on result s.now operatorRule at 0 }
+    ensures { Leaf goes_on result s.now operator_rule at 0 }
 {
     let r = blank::skip_blanks(s, at);
     let Ans::Got(q, _) = r else {
@@ -112,7 +112,7 @@ pub fn suffix(s: &[u8], at: usize) -> Ans
 // Blanks, a comma and blanks, and the number is 1; or it is 0, and no comma stands behind the blanks.
 pub fn comma(s: &[u8], at: usize) -> Ans
     requires { at ≤ length s.now }
-    ensures { Leaf goes_on result s.now commaRule at 0 }
+    ensures { Leaf goes_on result s.now comma_rule at 0 }
 {
     let r = blank::skip_blanks(s, at);
     let Ans::Got(q, _) = r else {

@@ -14,7 +14,7 @@ use Rattle.rules.proofs.Ends.{Turn, last, goon, turn}
 use Rattle.rules.proofs.Local.{Up, up, up_repeat}
 use Rattle.rules.proofs.Turns.{many_more, many_last}
 use Rattle.jsx.specs.Byte.{character, need}
-use Rattle.jsx.specs.Name.{opens_part, in_part, part as namePart}
+use Rattle.jsx.specs.Name.{opens_part, in_part, part as name_part}
 use Rattle.lex.proofs.Laws as Lex
 use Rattle.character.specs.Width.{width_of}
 use Rattle.character.proofs.Read.{spelled, character_spelled, character_wide}
@@ -203,7 +203,7 @@ module _ (s : List ℕ) where
 
 -- ---- a part from a to e
 
-module _ (s : List ℕ) (a e : ℕ) {w : Forest} (h : read_at s namePart a ≡ got true w e) where
+module _ (s : List ℕ) (a e : ℕ) {w : Forest} (h : read_at s name_part a ≡ got true w e) where
   abbrev First : Type 0
   First = (o₁ : Forest)
       × (p₁ : ℕ)
@@ -213,7 +213,7 @@ module _ (s : List ℕ) (a e : ℕ) {w : Forest} (h : read_at s namePart a ≡ g
       × (w ≡ o₁ ⋈ o₂)
 
   first : First
-  unfolding namePart parse
+  unfolding name_part parse
   first = both_read s (suc (length s)) (when_char opens_part ⇒ character ∣ need) rest_of_part 0 a h
 
   -- It begins with a character that opens one.
@@ -260,8 +260,8 @@ module _ (s : List ℕ) (a e : ℕ) {w : Forest} (h : read_at s namePart a ≡ g
 
     -- With a character of no part behind them, they are the same part.
     pub part_again : (z : ℕ) → z + a ≡ c + e → in_part (code_at s z) ≡ false → z ≤ length s
-        → read_at s namePart c ≡ got true w z
-    unfolding namePart parse
+        → read_at s name_part c ≡ got true w z
+    unfolding name_part parse
     part_again z j st i =
         let k = opens_coded s a part_opens in
         let wide = character_wide s a k in
@@ -281,8 +281,8 @@ module _ (s : List ℕ) (a e : ℕ) {w : Forest} (h : read_at s namePart a ≡ g
 
 -- Parts in the same bytes, up to b and up to d, end at the same one.
 pub parts_twin : (s : List ℕ) (p q e f b d : ℕ) {w w₂ : Forest}
-    → read_at s namePart p ≡ got true w e
-    → read_at s namePart q ≡ got true w₂ f
+    → read_at s name_part p ≡ got true w e
+    → read_at s name_part q ≡ got true w₂ f
     → Agree s p b q
     → b + q ≡ d + p
     → e ≤ b

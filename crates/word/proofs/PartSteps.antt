@@ -17,7 +17,7 @@ use Rattle.jsx.specs.Refusal.{unexpected, end_of_input}
 use Rattle.jsx.specs.Byte.{end, is, ◌or◌, character, need}
 use Rattle.jsx.specs.Ranges.{start_ranges, continue_ranges}
 use Rattle.jsx.specs.Unicode.{in_ranges}
-use Rattle.jsx.specs.Name.{opens_name, opens_part, in_part, part as namePart}
+use Rattle.jsx.specs.Name.{opens_name, opens_part, in_part, part as name_part}
 use Rattle.lex.specs.Contract.{out_of, nothing, Leaf, Past}
 use Rattle.lex.specs.declared.Ans.{Ans}
 use Rattle.lex.specs.declared.Ans.TheVariants.{Got}
@@ -265,8 +265,8 @@ byte_goes_on {s} {at} {p} v y i x = record { opens = v.opens; turns = goes_on v.
 module _ (s : List ℕ) (at : ℕ) where
   -- Its first character, and what was read behind it.
   pub part_got : opens_part (code_at s at) ≡ true → {q : ℕ} → Past q s rest_of_part (at + width_of (byte_at s at)) 0
-      → Past q s namePart at 1
-  unfolding namePart parse
+      → Past q s name_part at 1
+  unfolding name_part parse
   part_got h {q} l =
       let k : code_at s at ≡ no_char → ⊥ = λ z. never (sym PartTests.none_opens ∙ sym (ap opens_part z) ∙ h) in
       let e : parsed s (when_char opens_part ⇒ character ∣ need) 0 at
@@ -282,8 +282,8 @@ module _ (s : List ℕ) (at : ℕ) where
       }
 
   -- A character that opens none is what is needed here and does not begin.
-  pub part_no : opens_part (code_at s at) ≡ false → read_at s need at ≡ read_at s namePart at
-  unfolding namePart parse need
+  pub part_no : opens_part (code_at s at) ≡ false → read_at s need at ≡ read_at s name_part at
+  unfolding name_part parse need
   part_no h = rw h (go (end (byte_at s at)))
     where
       go : (b : Bool) → pick b (trouble end_of_input at at 0 0) (trouble unexpected at at 0 0)
@@ -295,7 +295,7 @@ module _ (s : List ℕ) (at : ℕ) where
   -- A part of ASCII.
   pub ascii_ends : {p : ℕ} → Ascii s at p → {b : ℕ} → b ≡ byte_at s p → {t : Bool} → t ≡ name_byte b → t ≡ false
       → {c : ℕ} → c ≡ byte_at s p → c < 0x80
-      → Leaf nothing (Got p 0) s namePart at 1
+      → Leaf nothing (Got p 0) s name_part at 1
   ascii_ends {p} v y i x z k =
       let l = opens_low (byte_at s at) v.opens in
       let n = width_one {b = byte_at s at} (omega arith) in
@@ -329,19 +329,19 @@ module _ (s : List ℕ) (at : ℕ) where
 
   module _ {e : ℕ} (l : EndOfPart e s at) where
     -- It was seen to begin.
-    pub end_seen : opens_part (code_at s at) ≡ true → Past e s namePart at 1
+    pub end_seen : opens_part (code_at s at) ≡ true → Past e s name_part at 1
     end_seen h = l.some h
 
     -- It ends somewhere,
-    pub part_found : (e ≡ 0 → ⊥) → Past e s namePart at 1
+    pub part_found : (e ≡ 0 → ⊥) → Past e s name_part at 1
     part_found k = go (opens_part (code_at s at)) refl
       where
-        go : (b : Bool) → opens_part (code_at s at) ≡ b → Past e s namePart at 1
+        go : (b : Bool) → opens_part (code_at s at) ≡ b → Past e s name_part at 1
         go true h = l.some h
         go false h = absurd (k (l.none h))
 
     -- or does not begin.
-    pub part_fails : e ≡ 0 → {r : Ans} → Leaf nothing r s need at 0 → Leaf nothing r s namePart at 1
+    pub part_fails : e ≡ 0 → {r : Ans} → Leaf nothing r s need at 0 → Leaf nothing r s name_part at 1
     part_fails k m = Lex.leaf_refuses m (part_no (go (opens_part (code_at s at)) refl)) (Lex.need_fails s at)
       where
         go : (b : Bool) → opens_part (code_at s at) ≡ b → opens_part (code_at s at) ≡ false

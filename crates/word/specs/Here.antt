@@ -3,7 +3,7 @@ use Rattle.std.specs.Prelude.{◌≡◌, Bool, true, false, List, ℕ, ltb}
 use Rattle.rules.specs.Rule.{Test, Rule, stop, when_char, many, ◌⇒◌∣◌}
 use Rattle.rules.specs.Parse.{pick, byte_at, code_at}
 use Rattle.jsx.specs.Byte.{is, ◌or◌, character}
-use Rattle.jsx.specs.Name.{in_word, opens_part, in_part, part as namePart}
+use Rattle.jsx.specs.Name.{in_word, opens_part, in_part, part as name_part}
 use Rattle.lex.specs.Contract.{Past}
 use Rattle.character.specs.Width.{width_of}
 use Rattle.identifier.specs.Script.{common, gap}
@@ -32,5 +32,5 @@ ends_part s at = pick (ltb (byte_at s at) 0x80) true (gap (code_at s at))
 
 -- r is the end of the part that begins here, or 0, and none begins.
 pub record EndOfPart (r : ℕ) (s : List ℕ) (at : ℕ) : Type 0 where
-  pub some : opens_part (code_at s at) ≡ true → Past r s namePart at 1
+  pub some : opens_part (code_at s at) ≡ true → Past r s name_part at 1
   pub none : opens_part (code_at s at) ≡ false → r ≡ 0

@@ -5,7 +5,7 @@ ghost use Rattle.std.specs.Prelude.{◌≡◌, true, ◌-◌, ◌≤◌, length}
 ghost use Rattle.rules.specs.Parse.{byte_at, code_at};
 ghost use Rattle.jsx.specs.Byte.{letter, digit};
 ghost use Rattle.jsx.specs.Ranges.{continue_ranges};
-ghost use Rattle.jsx.specs.Name.{opens_name, in_word, opens_part, in_part, dashed, part as namePart};
+ghost use Rattle.jsx.specs.Name.{opens_name, in_word, opens_part, in_part, dashed, part as name_part};
 ghost use Rattle.jsx.specs.Word.{word};
 ghost use Rattle.lex.specs.Contract.{Leaf, Past, nothing, bytes_from};
 ghost use Rattle.word.specs.Here.{name_byte, common_width, part_width, ends_part, rest_of_part, EndOfPart};
@@ -171,7 +171,7 @@ fn end_of_part(s: &[u8], at: usize) -> usize
 // A part of a name, whose first character was seen: its end.
 pub fn continue_lex_jsx_identifier(s: &[u8], at: usize) -> usize
     requires { (at ≤ length s.now) × (opens_part (code_at s.now at) ≡ true) }
-    ensures { Past result s.now namePart at 1 }
+    ensures { Past result s.now name_part at 1 }
 {
     end_of_part(s, at)
 }
@@ -179,7 +179,7 @@ pub fn continue_lex_jsx_identifier(s: &[u8], at: usize) -> usize
 // A part of a name; the number is 0. One of ASCII is read here, any other by `end_of_part`, from its first byte on.
 pub fn parse_jsx_identifier(s: &[u8], at: usize) -> Ans
     requires { at ≤ length s.now }
-    ensures { Leaf nothing result s.now namePart at 1 }
+    ensures { Leaf nothing result s.now name_part at 1 }
 {
     if opens_name(lex::byte(s, at)) {
         let mut p = at + 1;

@@ -4,7 +4,7 @@ use lib.ListN.{length}
 use Rattle.rules.specs.Rule.{many}
 use Rattle.jsx.specs.Expression.{postfix_turn, argument_turn}
 use Rattle.jsx.specs.Tag.{attributes}
-use Rattle.jsx.specs.Element.{children as childrenRule}
+use Rattle.jsx.specs.Element.{children as children_rule}
 use Rattle.jsx.specs.Depth.{within}
 use Rattle.table.specs.Slot.{seat}
 use Rattle.reader.specs.Cut.{operand_turn}
@@ -114,7 +114,7 @@ abbrev pub decreases-attrs-loop-q : goal.decreases-attrs-loop-q
 decreases-attrs-loop-q l = length l.s - l.p
 
 abbrev pub invariant-children-loop-z : goal.invariant-children-loop-z
-invariant-children-loop-z l = Loop 3 l.s (childrenRule (within l.d)) l.at (seat l.slot) l.initial.t l.p l.m l.t
+invariant-children-loop-z l = Loop 3 l.s (children_rule (within l.d)) l.at (seat l.slot) l.initial.t l.p l.m l.t
 
 abbrev pub decreases-children-loop-z : goal.decreases-children-loop-z
 decreases-children-loop-z l = length l.s - l.p
