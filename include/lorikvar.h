@@ -3,9 +3,8 @@
  *
  * Four calls read an input: a check counts its records, a read also writes them into a table. Two readings: a STAGE
  * is blanks, one element or fragment, blanks and the end of input; a RUN is zero or more children up to the end of
- * input. Four more do the same within limits that are lent, and one reads such limits from a settings store. Two more
- * say where the bytes of a record or of a span stand in the input. "Document 01" below is the paper that defines the
- * language; crates/jsx/specs states it.
+ * input. Two more calls say where the bytes of a record or of a span stand in the input. "Document 01" below is the
+ * paper that defines the language; crates/jsx/specs states it.
  *
  * BLANKS are comments and ECMA-262's white space and line terminators: tab, LF, VT, FF, CR, space, U+00A0, U+1680,
  * U+2000 to U+200A, U+2028, U+2029, U+202F, U+205F, U+3000, U+FEFF. A byte order mark in front of a stage is one of
@@ -14,16 +13,6 @@
  * NAMES of elements and attributes may be in any script: a part begins with a character of Unicode's ID_Start, `$` or
  * `_`, then come those of ID_Continue, `$`, U+200C, U+200D and `-`; of version 17.0. Two names are equal if their bytes
  * are: none is normalised. Names in braces are ASCII.
- *
- * LIMITS. A reading has two: the most levels of depth and the most bytes of an input. Document 01's are
- * LORIKVAR_MOST_DEPTH and LORIKVAR_MOST_BYTES, and the calls that are lent no limits read with them.
- *
- * A SETTINGS STORE carries limits from one device to the next. It is a list of records, of any length: each is 53 54
- * hex, a byte for its kind, a byte for its length, and that many bytes. Kind 1 is the depth limit, one byte, 1 to 64;
- * kind 2 the length limit, 4 bytes, low byte first, at most 1,048,576. The last of a kind counts; where there is none,
- * document 01's limit holds, so the empty store is good. A record of kind 128 to 255 is skipped, and its bytes are not
- * looked at; any other kind is refused. So a store by a newer writer gives the right limits or is refused. A refused
- * store gives document 01's limits, whatever stood in it before.
  *
  * Any bytes get an answer. A refusal is the whole answer: it writes no word of the table, and there is no half-read
  * tree.
@@ -46,43 +35,29 @@
  * It prints `hi`. Where the size of the table is not known, check first: the count times LORIKVAR_ROW_WORDS is the
  * words that a read needs. An input of n bytes has at most n records (proved: crates/jsx/proofs/Fits.antt).
  *
- * ANOTHER: a stage, checked within the limits of a store.
- *
- *     const uint8_t store[] = {0x53, 0x54, 1, 1, 2};
- *     const uint8_t *input = (const uint8_t *)"<a><b><c/></b></a>";
- *     size_t limits[LORIKVAR_LIMITS], values[LORIKVAR_VALUES];
- *     if (lorikvar_settings(store, sizeof store, limits, values) != LORIKVAR_ACCEPTED)
- *         printf("the store is refused, so document 01's limits hold\n");
- *     if (lorikvar_check_stage_within(input, 18, limits, values) == LORIKVAR_REFUSAL_TOO_DEEP)
- *         printf("more than %zu levels at %zu\n", limits[LORIKVAR_LIMIT_DEPTH], values[0]);
- *
- * It prints `more than 2 levels at 6`.
- *
- * WHAT IS PROMISED. What each call returns and writes is determined for every input, table, store and limits; the
- * statements stand in crates/abi/specs/Said.antt, which cites the definitions in crates/jsx/specs/Table.antt and
- * Settings.antt, and are named at each call. They are proved. Not proved but tested: that this header says the same as
- * the archive (tests/c).
+ * WHAT IS PROMISED. What each call returns and writes is determined for every input and every table; the statements
+ * stand in crates/abi/specs/Said.antt, which cites the definitions in crates/jsx/specs/Table.antt, and are named at
+ * each call. They are proved. Not proved but tested: that this header says the same as the archive (tests/c).
  *
  * WHAT IS ASKED of the caller, by every call:
  *
  * - A pointer is valid for the length beside it, in elements: `length` bytes, `words` words of 32 bits; `values`
- *   has 4 elements, `limits` and `part` have 2. Tables, `values`, `limits` and `part` are aligned as their types are;
- *   an input or a store has no alignment.
+ *   has 4 elements and `part` has 2. Tables, `values` and `part` are aligned as their types are; an input has no
+ *   alignment.
  * - A pointer whose length is 0 may be null, or point anywhere: nothing is read or written through it (tested; the
- *   statements do not speak of addresses). `values`, `limits` and `part` are never null.
- * - What is lent to be written (`table` in a read, `limits` in lorikvar_settings, `values`, `part`) overlaps nothing
- *   else that the same call is lent, and nobody else reads or writes it until the call returns. To lend one buffer
- *   twice so is the caller's fault, and no promise holds then.
- * - What is lent to be read (`input`, `store`; `limits` in the calls named _within; `table` in lorikvar_record_bytes)
- *   may overlap other such parts, and may be lent to several calls at once. Nobody writes it until the call returns:
- *   of a mapped file, no other process.
+ *   statements do not speak of addresses). `values` and `part` are never null.
+ * - What is lent to be written (`table` in a read, `values`, `part`) overlaps nothing else that the same call is
+ *   lent, and nobody else reads or writes it until the call returns. To lend one buffer twice so is the caller's
+ *   fault, and no promise holds then.
+ * - What is lent to be read (`input`; `table` in lorikvar_record_bytes) may overlap other such parts, and may be
+ *   lent to several calls at once. Nobody writes it until the call returns: of a mapped file, no other process.
  *
  * TABLES. A record is LORIKVAR_ROW_WORDS words. A table of w words holds w / LORIKVAR_ROW_WORDS records, rounded
  * down: any w is good, and the words beyond the last record stay as they were.
  *
  * WHAT IS USED. No call allocates, keeps a pointer, has state of its own, or calls anything outside the archive; so
- * several threads may call at once. The stack is bounded, since depth is, whatever limits are lent: less than 128 KiB
- * at depth 64 (measured by tests/c, which fails above it; not proved).
+ * several threads may call at once. The stack is bounded, since depth is: less than 128 KiB at depth 64 (measured
+ * by tests/c, which fails above it; not proved).
  */
 #ifndef LORIKVAR_H
 #define LORIKVAR_H
@@ -97,26 +72,19 @@
 extern "C" {
 #endif
 
-/* Document 01's limits: the most bytes of an input, and the most levels of depth. No others are greater. */
+/* The most bytes of an input; a longer one is LORIKVAR_REFUSAL_TOO_LONG, and no byte of it is read. */
 #define LORIKVAR_MOST_BYTES 1048576
+
+/* The most levels of depth. */
 #define LORIKVAR_MOST_DEPTH 64
 
 /* The words of a record, and the parent of a record that stands in none. */
 #define LORIKVAR_ROW_WORDS 7
 #define LORIKVAR_NO_PARENT 0xFFFFFFFFu
 
-/* The elements of `values`, of `part` and of `limits`. */
+/* The elements of `values` and of `part`. */
 #define LORIKVAR_VALUES 4
 #define LORIKVAR_PART 2
-#define LORIKVAR_LIMITS 2
-
-/* The elements of `limits`, in order. */
-enum lorikvar_limit {
-    /* The most levels of depth. */
-    LORIKVAR_LIMIT_DEPTH = 0,
-    /* The most bytes of an input. */
-    LORIKVAR_LIMIT_BYTES = 1
-};
 
 /*
  * What a check or a read returns: accepted, or a refusal by its number; there is no other. `values` then holds two
@@ -127,7 +95,7 @@ enum lorikvar_limit {
 enum lorikvar_refusal {
     /* Accepted: values[0] is the count of records, the others are 0. */
     LORIKVAR_ACCEPTED = 0,
-    /* The input has more bytes than the length limit: 0, 0. No byte of it is read. */
+    /* The input has more than LORIKVAR_MOST_BYTES bytes: 0, 0. */
     LORIKVAR_REFUSAL_TOO_LONG = 1,
     /* Not well-formed UTF-8: the offset where no good sequence begins. */
     LORIKVAR_REFUSAL_NOT_UTF8 = 2,
@@ -154,7 +122,7 @@ enum lorikvar_refusal {
     LORIKVAR_REFUSAL_ADJACENT = 12,
     /* Anything else after a stage: its start. */
     LORIKVAR_REFUSAL_AFTER_STAGE = 13,
-    /* More levels than the depth limit: the first byte of the one too many. */
+    /* More than LORIKVAR_MOST_DEPTH levels: the first byte of the one too many. */
     LORIKVAR_REFUSAL_TOO_DEEP = 14,
     /* Accepted, but more records than the table holds: values[0] is the count that is needed. From reads only. */
     LORIKVAR_REFUSAL_TABLE_TOO_SMALL = 15,
@@ -164,22 +132,6 @@ enum lorikvar_refusal {
     LORIKVAR_REFUSAL_COMMENT_NEVER_CLOSED = 17,
     /* A string in braces is never closed: its quote. */
     LORIKVAR_REFUSAL_STRING_NEVER_CLOSED = 18
-};
-
-/*
- * Why lorikvar_settings refuses a store; no check and no read gives these. Records are judged one by one, each by these
- * in order, and the first trouble wins. A record's offset is that of its mark's first byte. Crate jsx,
- * specs/Refusal.antt.
- */
-enum lorikvar_settings_refusal {
-    /* A byte where the mark should be, and it is not the mark's: the record's offset. */
-    LORIKVAR_REFUSAL_WRONG_MARK = 31,
-    /* The store ends inside a record, be it in its mark: the record's offset. */
-    LORIKVAR_REFUSAL_CUT_SHORT = 32,
-    /* A kind below 128 that is neither 1 nor 2: values[0] is the kind, values[1] is 0. */
-    LORIKVAR_REFUSAL_UNKNOWN_KIND = 33,
-    /* A length that is not the kind's, or a number that its limit cannot be: the record's offset. */
-    LORIKVAR_REFUSAL_BAD_SETTING = 34
 };
 
 /*
@@ -245,62 +197,30 @@ enum lorikvar_word {
     /* 0 or 1, as said at enum lorikvar_kind. */
     LORIKVAR_WORD_EXTRA = 5,
     /* The number of its ancestors: 0 for an outermost record, else its parent's plus 1. Records are counted, tags,
-     * attributes, containers and expressions among them; so it is not the depth that is limited. */
+     * attributes, containers and expressions among them; so it is not the depth that LORIKVAR_MOST_DEPTH limits. */
     LORIKVAR_WORD_DEPTH = 6
 };
 
 /*
  * Checks a stage. Returns 0 with the count of its records in values[0], or a refusal's number with its places: one of
- * enum lorikvar_refusal, never 15. All four values are always written. Promise: SaysOfCheck standard stageRule.
+ * enum lorikvar_refusal, never 15. All four values are always written. Promise: SaysOfCheck stageRule.
  */
 uint32_t lorikvar_check_stage(const uint8_t *input, size_t length, size_t values[LORIKVAR_VALUES]);
 
-/* Checks a run, likewise; never 13. The empty run is good and has no record. Promise: SaysOfCheck standard runRule. */
+/* Checks a run, likewise; never 13. The empty run is good and has no record. Promise: SaysOfCheck runRule. */
 uint32_t lorikvar_check_run(const uint8_t *input, size_t length, size_t values[LORIKVAR_VALUES]);
 
 /*
  * Reads a stage into a table. Returns what the check returns, or 15 where that accepts and the table holds fewer
  * records. Where it returns 0, the records stand at the table's front, and the words behind them are as they were;
- * else no word of the table is written. All four values are always written. Promise: SaysOfRead standard stageRule.
+ * else no word of the table is written. All four values are always written. Promise: SaysOfRead stageRule.
  */
 uint32_t lorikvar_read_stage(const uint8_t *input, size_t length, uint32_t *table, size_t words,
                              size_t values[LORIKVAR_VALUES]);
 
-/* Reads a run into a table, likewise. Promise: SaysOfRead standard runRule. */
+/* Reads a run into a table, likewise. Promise: SaysOfRead runRule. */
 uint32_t lorikvar_read_run(const uint8_t *input, size_t length, uint32_t *table, size_t words,
                            size_t values[LORIKVAR_VALUES]);
-
-/*
- * Reads a settings store. Returns 0 with the limits that it gives and four zeros in `values`, or one of enum
- * lorikvar_settings_refusal with its places in `values`; the limits are document 01's then, so a caller may go on and
- * read with them. Both limits and all four values are always written. Promise: SaysOfSettings.
- */
-uint32_t lorikvar_settings(const uint8_t *store, size_t length, size_t limits[LORIKVAR_LIMITS],
-                           size_t values[LORIKVAR_VALUES]);
-
-/*
- * Checks a stage as lorikvar_check_stage does, within the limits that are lent: those of lorikvar_settings, or any two
- * numbers. One above document 01's counts as document 01's; so the calls that are lent none are these with
- * LORIKVAR_MOST_DEPTH and LORIKVAR_MOST_BYTES. A depth of 0, which no store gives, lets no level in.
- * Promise: SaysOfCheck (capped ..) stageRule.
- */
-uint32_t lorikvar_check_stage_within(const uint8_t *input, size_t length, const size_t limits[LORIKVAR_LIMITS],
-                                     size_t values[LORIKVAR_VALUES]);
-
-/* Checks a run within limits, likewise. Promise: SaysOfCheck (capped ..) runRule. */
-uint32_t lorikvar_check_run_within(const uint8_t *input, size_t length, const size_t limits[LORIKVAR_LIMITS],
-                                   size_t values[LORIKVAR_VALUES]);
-
-/*
- * Reads a stage as lorikvar_read_stage does, within the limits that are lent, as said at lorikvar_check_stage_within.
- * Promise: SaysOfRead (capped ..) stageRule.
- */
-uint32_t lorikvar_read_stage_within(const uint8_t *input, size_t length, const size_t limits[LORIKVAR_LIMITS],
-                                    uint32_t *table, size_t words, size_t values[LORIKVAR_VALUES]);
-
-/* Reads a run within limits, likewise. Promise: SaysOfRead (capped ..) runRule. */
-uint32_t lorikvar_read_run_within(const uint8_t *input, size_t length, const size_t limits[LORIKVAR_LIMITS],
-                                  uint32_t *table, size_t words, size_t values[LORIKVAR_VALUES]);
 
 /*
  * The bytes from start to end. Returns true with part = {start, end}, where start <= end <= length; else false with

@@ -1,5 +1,4 @@
-//! Answers items by a rule of its own, for the tests: a `!` is refused by 3 where it stands, all else is one text. A
-//! store's length limit is the store's own length, and no reading goes by it.
+//! Answers items by a rule of its own, for the tests: a `!` is refused by 3 where it stands, all else is one text.
 //!
 //!     toy [COUNT] < ITEMS      after COUNT items it ends
 
@@ -13,18 +12,17 @@ fn main() -> io::Result<()> {
         if input.read_exact(&mut head).is_err() {
             break;
         }
-        let [letter, length @ ..] = head;
+        let [_, length @ ..] = head;
         let mut bytes = vec![0; u32::from_le_bytes(length) as usize];
         input.read_exact(&mut bytes)?;
-        output.write_all(answer(letter, &bytes).as_bytes())?;
+        output.write_all(answer(&bytes).as_bytes())?;
         output.flush()?;
     }
     Ok(())
 }
 
-fn answer(letter: u8, bytes: &[u8]) -> String {
+fn answer(bytes: &[u8]) -> String {
     match bytes.iter().position(|byte| *byte == b'!') {
-        _ if letter == b'c' => format!("set 1 {}\n", bytes.len()),
         Some(at) => format!("no 3 {at} {at} 0 0\n"),
         None => format!("ok 1\n0 14 0 {} - 1 0 0\n", bytes.len()),
     }

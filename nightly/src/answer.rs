@@ -72,38 +72,6 @@ impl Answer {
     }
 }
 
-/// An answer to a settings store.
-#[derive(Clone, PartialEq, Eq, Debug)]
-pub enum Setting {
-    /// The depth limit and the length limit.
-    Set([u32; 2]),
-    No(Refusal),
-    Skip,
-}
-
-impl Setting {
-    pub fn parsed(text: &[u8]) -> Result<Setting, String> {
-        let text = String::from_utf8_lossy(text);
-        let line = text.strip_suffix('\n').unwrap_or_default();
-        let setting = match line.split_once(' ').unwrap_or((line, "")) {
-            ("set", words) => numbers(words).map(Setting::Set),
-            ("no", words) => refusal(words).map(Setting::No),
-            ("skip", _) => Some(Setting::Skip),
-            _ => None,
-        };
-        setting.ok_or_else(|| format!("no answer to a store: {}", text.escape_debug()))
-    }
-
-    /// What is counted: `set`, or the number.
-    pub fn word(&self) -> Option<String> {
-        match self {
-            Setting::Set(_) => Some("set".to_string()),
-            Setting::No(Refusal::Told(number, _)) => Some(number.to_string()),
-            _ => None,
-        }
-    }
-}
-
 fn rows(rows: Vec<Row>) -> Answer {
     Answer::Ok(Some(rows))
 }
@@ -127,14 +95,12 @@ fn refusal(words: &str) -> Option<Refusal> {
     if let Some(said) = words.strip_prefix('?') {
         return Some(Refusal::InWords(said.trim_start().to_string()));
     }
-    let [number, places @ ..]: [u32; 5] = numbers(words)?;
+    let numbers: Vec<u32> = words
+        .split(' ')
+        .map(|word| word.parse().ok())
+        .collect::<Option<_>>()?;
+    let [number, places @ ..]: [u32; 5] = numbers.try_into().ok()?;
     Some(Refusal::Told(number, places))
-}
-
-fn numbers<const N: usize>(words: &str) -> Option<[u32; N]> {
-    let numbers = words.split(' ').map(|word| word.parse().ok());
-    let numbers: Vec<u32> = numbers.collect::<Option<_>>()?;
-    numbers.try_into().ok()
 }
 
 /// The next answer as it is written, with all its lines; nothing where the output ends.
@@ -204,31 +170,9 @@ mod tests {
             "ok 1\n0 1 2\n",
             "ok 1\n0 14 0 1 - 1 0\n",
             "no x\n",
-            "set 64 1048576\n",
         ];
         for text in texts {
             assert!(Answer::parsed(text.as_bytes()).is_err(), "{text}");
-        }
-    }
-
-    #[test]
-    fn answers_to_stores() {
-        let refused = Setting::No(Refusal::Told(33, [3, 0, 0, 0]));
-        assert_eq!(Setting::parsed(b"no 33 3 0 0 0\n"), Ok(refused.clone()));
-        assert_eq!(refused.word(), Some("33".to_string()));
-        let set = Setting::Set([5, 1_048_576]);
-        assert_eq!(Setting::parsed(b"set 5 1048576\n"), Ok(set.clone()));
-        assert_eq!(set.word(), Some("set".to_string()));
-        assert_eq!(Setting::parsed(b"skip\n"), Ok(Setting::Skip));
-        for text in [
-            "",
-            "set 5\n",
-            "set 5 6 7\n",
-            "set 5 6",
-            "ok 0\n",
-            "set ? 6\n",
-        ] {
-            assert!(Setting::parsed(text.as_bytes()).is_err(), "{text}");
         }
     }
 
@@ -242,9 +186,7 @@ mod tests {
 
     #[test]
     fn answers_one_by_one() {
-        let mut output = &b"set 5 6\nok 1\n0 14 0 1 - 1 0 0\nno 4 0 0 0 0\nok 2\n0"[..];
-        let store = next_answer(&mut output).unwrap().unwrap();
-        assert_eq!(store, b"set 5 6\n");
+        let mut output = &b"ok 1\n0 14 0 1 - 1 0 0\nno 4 0 0 0 0\nok 2\n0"[..];
         let first = next_answer(&mut output).unwrap().unwrap();
         assert_eq!(first, b"ok 1\n0 14 0 1 - 1 0 0\n");
         let second = next_answer(&mut output).unwrap().unwrap();

@@ -5,7 +5,6 @@ use crate::item::{Item, Reading};
 use crate::name::{border, words};
 use crate::random::Random;
 use crate::stages::{Stage, Stages};
-use crate::store;
 
 /// A stage travels in packets of one of these sizes; 1,400 is what the headset's line carries.
 const PACKET_SIZES: [usize; 4] = [64, 256, 536, MOST_LOST];
@@ -118,13 +117,12 @@ pub fn made(stages: &Stages, seed: u64, number: u64) -> (Item, Origin<'_>) {
     let damage = Damage::drawn(random);
     let reading = reading(stage, random);
     let bytes = damaged(&stage.item.bytes, damage, stages, random);
-    let store = store::drawn(bytes.len(), random);
     let origin = Origin {
         number,
         damage,
         stage: &stage.name,
     };
-    (Item::plain(reading, bytes).with_store(store), origin)
+    (Item { reading, bytes }, origin)
 }
 
 /// Any bytes may be read either way: once in eight the other one is asked for.
@@ -335,7 +333,10 @@ mod tests {
         let texts = ["<a>0123456789</a>", "<b c={d}/>", ""];
         let stage = |text: &&str| Stage {
             name: text.to_string(),
-            item: Item::plain(Reading::Stage, text.as_bytes().to_vec()),
+            item: Item {
+                reading: Reading::Stage,
+                bytes: text.as_bytes().to_vec(),
+            },
         };
         Stages::of(texts.iter().map(stage).collect())
     }
@@ -360,9 +361,6 @@ mod tests {
         }
         for reading in [Reading::Stage, Reading::Run] {
             assert!(all.iter().any(|(item, _)| item.reading == reading));
-        }
-        for with in [true, false] {
-            assert!(all.iter().any(|(item, _)| item.store.is_some() == with));
         }
     }
 

@@ -1,10 +1,9 @@
 //! Where an answer differs from the port's, and the class of the difference: who differs and how, with no offset
 //! or name of the input.
 
-use crate::answer::{Answer, Refusal, Row, Setting, Word, WORDS};
+use crate::answer::{Answer, Refusal, Row, Word, WORDS};
 use crate::item::Item;
 use crate::plugin::Bound;
-use crate::program::Text;
 
 /// What two answers to one item are to each other.
 #[derive(Clone, PartialEq, Eq, Debug)]
@@ -14,52 +13,8 @@ pub enum Held {
     Differ(String),
 }
 
-/// Holds what a plug-in wrote for an item against what the port wrote: for the store, for the reading, for the empty
-/// store behind it. A plug-in that knows no stores has written for the reading alone.
-pub fn held(item: &Item, port: &Text, other: &Text, bound: Bound) -> Result<Held, String> {
-    let reading = || reading_held(item, &port.reading, &other.reading, bound);
-    let (Some(ports), Some(others)) = (&port.stores, &other.stores) else {
-        return reading();
-    };
-    let store = store_held("store", &ports[0], &others[0])?;
-    if store != Held::Agree {
-        return Ok(store);
-    }
-    match reading()? {
-        Held::Agree => store_held("empty store", &ports[1], &others[1]),
-        held => Ok(held),
-    }
-}
-
-/// Stores are compared whole.
-fn store_held(which: &str, port: &[u8], other: &[u8]) -> Result<Held, String> {
-    if port == other {
-        return Ok(Held::Agree);
-    }
-    let (port, other) = (Setting::parsed(port)?, Setting::parsed(other)?);
-    let class = match (&port, &other) {
-        (_, Setting::Skip) => return Ok(Held::Skipped),
-        (Setting::Set(ones), Setting::Set(others)) => {
-            let differs = |at: &usize| ones[*at] != others[*at];
-            let limit = |at: usize| ["depth", "length"][at];
-            let first = (0..2).find(differs).map(limit);
-            first.map(|limit| format!("both set, the {limit} limit differs"))
-        }
-        (Setting::Set(_), Setting::No(refusal)) => {
-            Some(format!("the port sets limits, it {}", said(refusal)))
-        }
-        (Setting::No(refusal), Setting::Set(_)) => {
-            Some(format!("the port {}, it sets limits", said(refusal)))
-        }
-        (Setting::No(one), Setting::No(other)) => refusals(one, other),
-        (Setting::Skip, _) => None,
-    };
-    let class = class.unwrap_or_else(|| "the same, written otherwise".to_string());
-    Ok(Held::Differ(format!("{which}: {class}")))
-}
-
-/// What is compared whole agrees only letter for letter.
-fn reading_held(item: &Item, port: &[u8], other: &[u8], bound: Bound) -> Result<Held, String> {
+/// Holds what a plug-in wrote against what the port wrote. What is compared whole agrees only letter for letter.
+pub fn held(item: &Item, port: &[u8], other: &[u8], bound: Bound) -> Result<Held, String> {
     if port == other {
         return Ok(Held::Agree);
     }
@@ -185,93 +140,12 @@ mod tests {
     const STAGE: &str = "ok 3\n0 1 0 4 - 3 0 0\n1 18 0 4 0 3 0 1\n2 4 1 2 1 3 0 2\n";
 
     fn differ(port: &str, other: &str) -> Option<String> {
-        let item = Item::plain(Reading::Stage, b"<A/>".to_vec());
+        let item = Item {
+            reading: Reading::Stage,
+            bytes: b"<A/>".to_vec(),
+        };
         let parsed = |text: &str| Answer::parsed(text.as_bytes()).expect("an answer");
         difference(&item, &parsed(port), &parsed(other))
-    }
-
-    fn text(reading: &str) -> Text {
-        Text {
-            reading: reading.as_bytes().to_vec(),
-            stores: None,
-        }
-    }
-
-    /// The class where the answers to a store and to the empty one differ from the port's.
-    fn differ_with_stores(port: [&str; 2], other: [&str; 2]) -> Held {
-        let item = Item::plain(Reading::Stage, Vec::new()).with_store(Some(b"ST".to_vec()));
-        let [one, other] = [port, other].map(|stores| Text {
-            stores: Some(stores.map(|line| format!("{line}\n").into_bytes())),
-            ..text("no 4 0 0 0 0\n")
-        });
-        held(&item, &one, &other, Bound::Whole).expect("answers")
-    }
-
-    #[test]
-    fn answers_to_stores_are_compared() {
-        let restored = "set 64 1048576";
-        let class = |port: &str, other: &str| {
-            let held = differ_with_stores([port, restored], [other, restored]);
-            match held {
-                Held::Differ(class) => class,
-                held => format!("{held:?}"),
-            }
-        };
-        for (port, other, expected) in [
-            ("set 5 9", "set 5 9", "Agree"),
-            (
-                "set 5 9",
-                "set 6 8",
-                "store: both set, the depth limit differs",
-            ),
-            (
-                "set 5 9",
-                "set 5 8",
-                "store: both set, the length limit differs",
-            ),
-            (
-                "set 5 9",
-                "no 33 3 0 0 0",
-                "store: the port sets limits, it refuses by 33",
-            ),
-            (
-                "no 34 5 5 0 0",
-                "set 5 9",
-                "store: the port refuses by 34, it sets limits",
-            ),
-            (
-                "no 31 0 0 0 0",
-                "no 32 0 0 0 0",
-                "store: the port refuses by 31, it refuses by 32",
-            ),
-            (
-                "no 33 3 0 0 0",
-                "no 33 3 3 0 0",
-                "store: both refuse by 33, place 2 differs",
-            ),
-            ("set 5 9", "set 05 9", "store: the same, written otherwise"),
-            ("set 5 9", "skip", "Skipped"),
-        ] {
-            assert_eq!(class(port, other), expected);
-        }
-        let held = differ_with_stores(["set 5 9", restored], ["set 5 9", "set 5 9"]);
-        let expected = "empty store: both set, the depth limit differs";
-        assert_eq!(held, Held::Differ(expected.to_string()));
-    }
-
-    /// A parser is asked for the reading alone.
-    #[test]
-    fn a_plug_in_that_knows_no_stores_is_held_to_the_reading() {
-        let item = Item::plain(Reading::Stage, b"<A/>".to_vec()).with_store(Some(Vec::new()));
-        let set = || b"set 64 1048576\n".to_vec();
-        let port = Text {
-            stores: Some([set(), set()]),
-            ..text(STAGE)
-        };
-        let hold = |other: &str| held(&item, &port, &text(other), Bound::Domain);
-        assert_eq!(hold("ok ?\n"), Ok(Held::Agree));
-        let class = "the port accepts, it refuses: Expected".to_string();
-        assert_eq!(hold("no ? Expected\n"), Ok(Held::Differ(class)));
     }
 
     #[test]
@@ -287,8 +161,11 @@ mod tests {
 
     #[test]
     fn whole_answers_agree_letter_for_letter() {
-        let item = Item::plain(Reading::Stage, b"<A/>".to_vec());
-        let hold = |other: &str, bound| held(&item, &text(STAGE), &text(other), bound);
+        let item = Item {
+            reading: Reading::Stage,
+            bytes: b"<A/>".to_vec(),
+        };
+        let hold = |other: &str, bound| held(&item, STAGE.as_bytes(), other.as_bytes(), bound);
         let numbered = STAGE.replace("\n2 4", "\n3 4");
         let differ = Held::Differ("the same, written otherwise".to_string());
         assert_eq!(hold(STAGE, Bound::Whole), Ok(Held::Agree));
@@ -354,7 +231,10 @@ mod tests {
             let expected = "the port accepts, it refuses: Unexpected character ...";
             assert_eq!(class(character), expected);
         }
-        let item = Item::plain(Reading::Stage, "<\u{3D000}/>".as_bytes().to_vec());
+        let item = Item {
+            reading: Reading::Stage,
+            bytes: "<\u{3D000}/>".as_bytes().to_vec(),
+        };
         let refusal = Refusal::Told(3, [1, 1, 0, 0]);
         let expected = "refuses by 3 at a character beyond ASCII";
         assert_eq!(at_byte(&item, &refusal), expected);

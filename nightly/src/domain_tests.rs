@@ -9,7 +9,10 @@ const RUN: Reading = Reading::Run;
 type Case<'a> = (Reading, &'a str, &'a [u32]);
 
 fn item(reading: Reading, text: &str) -> Item {
-    Item::plain(reading, text.as_bytes().to_vec())
+    Item {
+        reading,
+        bytes: text.as_bytes().to_vec(),
+    }
 }
 
 /// No number is accepted; a number and a single place p mean p, p; unused places are 0.

@@ -18,6 +18,5 @@ pub mod random;
 pub mod shrink;
 pub mod stages;
 pub mod state;
-pub mod store;
 pub mod summary;
 pub mod tally;

@@ -1,8 +1,8 @@
 //! Night runs as a program: see README.md.
 
-use nightly::answer::{next_answer, Answer, Setting};
+use nightly::answer::{next_answer, Answer};
 use nightly::domain::compared;
-use nightly::item::{pieces_of, Item, Piece};
+use nightly::item::items_of;
 use nightly::night::Night;
 use nightly::options::Options;
 use nightly::stages::Stages;
@@ -82,34 +82,25 @@ fn show(states: &[State]) -> Result<bool, String> {
     Ok(merged(states)?.total(NEW) > 0)
 }
 
-/// For each item of a batch, 1 where document 01's domain holds the port's answer, else 0. It holds none to a store.
+/// For each item of a batch, 1 where document 01's domain holds the port's answer, else 0.
 fn show_domain(words: &[String]) -> Result<bool, String> {
     let [items, answers] = words else {
         return Err(USES.to_string());
     };
     let read = |file: &String| fs::read(file).map_err(|error| format!("{file}: {error}"));
-    let pieces = pieces_of(&read(items)?).map_err(|number| format!("bad item {number}"))?;
+    let items = items_of(&read(items)?).map_err(|number| format!("bad item {number}"))?;
     let answers = read(answers)?;
     let mut answers = &answers[..];
     let mut lines = String::new();
-    for piece in pieces {
+    for item in items {
         let text = next_answer(&mut answers).map_err(|error| error.to_string())?;
-        let text = text.unwrap_or_default();
-        lines += match is_compared(piece, &text)? {
-            true => "1\n",
-            false => "0\n",
+        let answer = Answer::parsed(&text.unwrap_or_default())?;
+        lines += if compared(&item, &answer) {
+            "1\n"
+        } else {
+            "0\n"
         };
     }
     print!("{lines}");
     Ok(false)
-}
-
-fn is_compared(piece: Piece, text: &[u8]) -> Result<bool, String> {
-    match piece {
-        Piece::Read(reading, bytes) => {
-            let item = Item::plain(reading, bytes);
-            Ok(compared(&item, &Answer::parsed(text)?))
-        }
-        Piece::Set(_) => Setting::parsed(text).map(|_| false),
-    }
 }

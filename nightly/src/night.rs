@@ -8,11 +8,11 @@ use crate::item::Item;
 use crate::known::Known;
 use crate::options::Options;
 use crate::plugin::{Bound, Plugin};
-use crate::program::{Life, Program, Text};
+use crate::program::{Life, Program};
 use crate::shrink::shrunk;
 use crate::stages::Stages;
 use crate::state::{Setup, State};
-use crate::tally::{ANSWER, COMPARED, DAMAGE, KNOWN, LEFT_OUT, NEW, SKIPPED, STORE};
+use crate::tally::{ANSWER, COMPARED, DAMAGE, KNOWN, LEFT_OUT, NEW, SKIPPED};
 use std::fs;
 use std::io;
 use std::path::Path;
@@ -30,7 +30,7 @@ pub struct Night<'a> {
 struct Block<'a> {
     items: Vec<Item>,
     origins: Vec<Origin<'a>>,
-    texts: Vec<Text>,
+    texts: Vec<Vec<u8>>,
 }
 
 impl<'a> Night<'a> {
@@ -99,11 +99,7 @@ impl<'a> Night<'a> {
         for (origin, text) in block.origins.iter().zip(&block.texts) {
             let number = self.port.read(text)?.number();
             let number = number.ok_or("the port gave no number")?;
-            let setting = self.port.setting(text)?.map(|setting| setting.word());
-            let store = setting.unwrap_or_else(|| Some("none".to_string()));
-            let store = store.ok_or("the port gave no number for a store")?;
             self.state.tally.add(DAMAGE, origin.damage.word(), 1);
-            self.state.tally.add(STORE, &store, 1);
             self.state.tally.add(ANSWER, &format!("{number:2}"), 1);
         }
         Ok(())
@@ -186,15 +182,8 @@ impl<'a> Night<'a> {
             other: &plugin.program.answers(only)?[0],
             plugin: plugin.name(),
         };
-        let files = [
-            (found.file_name(), Some(&smallest.bytes)),
-            (found.store_file_name(), smallest.store.as_ref()),
-        ];
-        for (name, bytes) in files {
-            let file = self.options.out.join(name);
-            let written = bytes.map_or(Ok(()), |bytes| fs::write(&file, bytes));
-            written.map_err(|error| about(&file, error))?;
-        }
+        let file = self.options.out.join(found.file_name());
+        fs::write(&file, &smallest.bytes).map_err(|error| about(&file, error))?;
         self.state.found.push(found.line());
         Ok(())
     }

@@ -8,7 +8,7 @@ use std::time::Duration;
 pub enum Bound {
     /// Document 01's language, written again: every item, whole, and no difference is known.
     Whole,
-    /// Another reader of JSX, which knows no limits: within document 01's domain, and some differences are known.
+    /// Another reader of JSX: within document 01's domain, and some differences are known.
     Domain,
 }
 
@@ -22,12 +22,10 @@ impl Plugin {
     pub fn of(words: &str, bound: Bound, patience: Duration) -> Plugin {
         let own = format!("nightly/plugins/{words}");
         let (name, command) = words.split_once('=').unwrap_or((words, &own));
-        let program = Program::new(name, command, Life::OneBlock).with_patience(patience);
-        let program = match bound {
-            Bound::Whole => program,
-            Bound::Domain => program.without_stores(),
-        };
-        Plugin { program, bound }
+        Plugin {
+            program: Program::new(name, command, Life::OneBlock).with_patience(patience),
+            bound,
+        }
     }
 
     pub fn name(&self) -> &str {

@@ -1,7 +1,7 @@
 //! A program that answers items: the port, or a plug-in.
 
-use crate::answer::{next_answer, Answer, Setting};
-use crate::item::{batch_of, Item, Piece};
+use crate::answer::{next_answer, Answer};
+use crate::item::{batch_of, Item};
 use std::io::{self, BufReader, Write};
 use std::process::{Child, ChildStdin, ChildStdout, Command, ExitStatus, Stdio};
 use std::sync::mpsc::{channel, RecvTimeoutError};
@@ -17,20 +17,10 @@ pub enum Life {
     OneBlock,
 }
 
-/// What a program wrote for an item.
-#[derive(Clone, PartialEq, Eq, Debug)]
-pub struct Text {
-    pub reading: Vec<u8>,
-    /// For the item's store, and for the empty one behind the reading.
-    pub stores: Option<[Vec<u8>; 2]>,
-}
-
 pub struct Program {
     pub name: String,
     command: String,
     life: Life,
-    /// Whether it is given stores.
-    stores: bool,
     /// After so long without the answers to a block the run ends.
     patience: Duration,
     running: Option<Running>,
@@ -48,7 +38,6 @@ impl Program {
             name: name.to_string(),
             command: command.to_string(),
             life,
-            stores: true,
             patience: Duration::MAX,
             running: None,
         }
@@ -59,46 +48,18 @@ impl Program {
         self
     }
 
-    /// It knows no stores: it is asked for the readings alone.
-    pub fn without_stores(mut self) -> Program {
-        self.stores = false;
-        self
-    }
-
-    /// What it writes for each item.
-    pub fn answers(&mut self, items: &[Item]) -> Result<Vec<Text>, String> {
-        let pieces: Vec<Piece> = match self.stores {
-            true => items.iter().flat_map(Item::pieces).collect(),
-            false => items.iter().map(Item::plain_piece).collect(),
-        };
-        let mut answers = self.answers_to(&pieces)?.into_iter();
-        let mut next = || answers.next().unwrap_or_default();
-        let text = |item: &Item| match item.store.is_some() && self.stores {
-            true => {
-                let [store, reading, empty] = [(); 3].map(|()| next());
-                let stores = Some([store, empty]);
-                Text { reading, stores }
-            }
-            false => Text {
-                reading: next(),
-                stores: None,
-            },
-        };
-        Ok(items.iter().map(text).collect())
-    }
-
-    /// An answer for each piece, as it is written.
-    pub fn answers_to(&mut self, pieces: &[Piece]) -> Result<Vec<Vec<u8>>, String> {
+    /// An answer for each item, as it is written.
+    pub fn answers(&mut self, items: &[Item]) -> Result<Vec<Vec<u8>>, String> {
         let kept = self.running.take();
         let in_words = |trouble: io::Error| self.trouble(&trouble.to_string());
         let running = kept.map_or_else(|| Running::started(&self.command), Ok);
         let mut running = running.map_err(in_words)?;
         let answers = self
-            .watched(|| running.ask(pieces, self.life))
+            .watched(|| running.ask(items, self.life))
             .map_err(in_words)?;
-        if answers.len() != pieces.len() {
+        if answers.len() != items.len() {
             let (ended, _) = running.ended().map_err(in_words)?;
-            let (got, asked) = (answers.len(), pieces.len());
+            let (got, asked) = (answers.len(), items.len());
             return Err(self.trouble(&format!("{got} answers to {asked} items; {ended}")));
         }
         match self.life {
@@ -136,18 +97,9 @@ impl Program {
         }
     }
 
-    /// Its answer to the reading of an item.
-    pub fn read(&self, text: &Text) -> Result<Answer, String> {
-        Answer::parsed(&text.reading).map_err(|words| self.trouble(&words))
-    }
-
-    /// Its answer to the item's store, if there is one.
-    pub fn setting(&self, text: &Text) -> Result<Option<Setting>, String> {
-        let setting = text
-            .stores
-            .as_ref()
-            .map(|[store, _]| Setting::parsed(store));
-        setting.transpose().map_err(|words| self.trouble(&words))
+    /// One of its answers, read.
+    pub fn read(&self, text: &[u8]) -> Result<Answer, String> {
+        Answer::parsed(text).map_err(|words| self.trouble(&words))
     }
 
     fn trouble(&self, words: &str) -> String {
@@ -174,8 +126,8 @@ impl Running {
     }
 
     /// Another thread feeds the items, so that neither side waits for the other with a full pipe.
-    fn ask(&mut self, pieces: &[Piece], life: Life) -> io::Result<Vec<Vec<u8>>> {
-        let batch = batch_of(pieces);
+    fn ask(&mut self, items: &[Item], life: Life) -> io::Result<Vec<Vec<u8>>> {
+        let batch = batch_of(items);
         let mut input = self.input.take().ok_or(io::ErrorKind::BrokenPipe)?;
         let output = &mut self.output;
         let (answers, input) = thread::scope(|scope| {
@@ -184,7 +136,7 @@ impl Running {
                 let fed = input.write_all(&batch).and_then(|()| input.flush());
                 fed.is_ok().then_some(input).filter(|_| life == Life::Kept)
             });
-            let answers = read_answers(output, pieces.len());
+            let answers = read_answers(output, items.len());
             (answers, feeder.join().ok().flatten())
         });
         self.input = input;
@@ -226,7 +178,11 @@ mod tests {
     use crate::item::Reading;
 
     fn items(count: usize) -> Vec<Item> {
-        vec![Item::plain(Reading::Run, vec![b'x'; 1_000]); count]
+        let item = Item {
+            reading: Reading::Run,
+            bytes: vec![b'x'; 1_000],
+        };
+        vec![item; count]
     }
 
     #[test]
@@ -238,31 +194,8 @@ mod tests {
         );
         for _ in 0..2 {
             let answers = program.answers(&items(1)).unwrap();
-            assert_eq!(answers[0].reading, b"no 4 0 0 0 0\n");
-            assert_eq!(answers[0].stores, None);
+            assert_eq!(answers, [b"no 4 0 0 0 0\n".to_vec()]);
         }
-    }
-
-    #[test]
-    fn stores_are_asked_about_where_they_are_known() {
-        let mut items = items(2);
-        items[0].store = Some(b"ST".to_vec());
-        let says = |words: &str| format!("sh -c 'cat >/dev/null; printf \"{words}\"'");
-        let four = says("no 32 0 0 0 0\\nok 0\\nset 64 9\\nok 0\\n");
-        let mut knows = Program::new("p", &four, Life::OneBlock);
-        let answers = knows.answers(&items).unwrap();
-        let stores = [b"no 32 0 0 0 0\n".to_vec(), b"set 64 9\n".to_vec()];
-        assert_eq!(answers[0].stores, Some(stores));
-        assert_eq!(
-            (&answers[1].stores, &answers[1].reading[..]),
-            (&None, &b"ok 0\n"[..])
-        );
-        let mut knows_none =
-            Program::new("p", &says("ok 0\\nok 0\\n"), Life::OneBlock).without_stores();
-        assert_eq!(knows_none.answers(&items).unwrap()[0], answers[1]);
-        assert!(Program::new("p", &says("ok 0\\nok 0\\n"), Life::OneBlock)
-            .answers(&items)
-            .is_err());
     }
 
     #[test]

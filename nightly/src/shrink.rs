@@ -3,7 +3,6 @@
 use crate::blank::blank_length;
 use crate::item::Item;
 use crate::parts::{parts, Part};
-use crate::store::{of_depth, of_length, records};
 
 /// Bytes of candidates that are asked about at once.
 const AT_ONCE: usize = 4 << 20;
@@ -33,7 +32,6 @@ pub fn shrunk(item: &Item, stays: &mut dyn Stays) -> Result<Item, String> {
     };
     loop {
         let before = search.best.clone();
-        search.take_stores(simplest_stores)?;
         search.become_a_part()?;
         while search.take(dropped_parts(&search.best.bytes))? {}
         while search.take(opened_parts(&search.best.bytes))? {}
@@ -43,7 +41,6 @@ pub fn shrunk(item: &Item, stays: &mut dyn Stays) -> Result<Item, String> {
         while search.take(two_bytes(&search.best.bytes))? {}
         while search.take(plainer_words(&search.best.bytes))? {}
         while search.take(plainer_bytes(&search.best.bytes))? {}
-        search.take_stores(smaller_stores)?;
         if search.best == before {
             return Ok(before);
         }
@@ -68,20 +65,6 @@ impl Search<'_> {
             .collect();
         let good = self.tested(&candidates)?;
         if let Some(first) = good.iter().position(|is| *is) {
-            self.best = candidates[first].clone();
-        }
-        Ok(())
-    }
-
-    /// The store goes, becomes one limit, or loses what it can, as long as one of these will do.
-    fn take_stores(&mut self, stores: fn(&Item) -> Vec<Option<Vec<u8>>>) -> Result<(), String> {
-        while self.best.store.is_some() {
-            let with = |store| self.best.with_store(store);
-            let candidates: Vec<Item> = stores(&self.best).into_iter().map(with).collect();
-            let good = self.tested(&candidates)?;
-            let Some(first) = good.iter().position(|is| *is) else {
-                break;
-            };
             self.best = candidates[first].clone();
         }
         Ok(())
@@ -127,7 +110,7 @@ impl Search<'_> {
             let rest = &candidates[good.len()..];
             let mut size = 0;
             let fits = |item: &&Item| {
-                size += item.bytes.len() + item.store.as_ref().map_or(0, Vec::len);
+                size += item.bytes.len();
                 size <= AT_ONCE
             };
             let count = rest.iter().take_while(fits).count().max(1);
@@ -135,61 +118,6 @@ impl Search<'_> {
         }
         Ok(good)
     }
-}
-
-/// None, or one limit that may matter: cheap to try while the input is long.
-fn simplest_stores(item: &Item) -> Vec<Option<Vec<u8>>> {
-    let length = item.bytes.len();
-    let lengths = [length.saturating_sub(1), length, length + 1];
-    let depths = (1..=4).map(of_depth);
-    plainer_stores(item, depths.chain(lengths.map(of_length)).collect())
-}
-
-/// Fewer records, fewer bytes, smaller bytes.
-fn smaller_stores(item: &Item) -> Vec<Option<Vec<u8>>> {
-    let store = item.store.as_deref().unwrap_or_default();
-    plainer_stores(item, [shorter_stores(store), smaller_bytes(store)].concat())
-}
-
-/// No store, or one of these that is plainer than the item's, the plainest first.
-fn plainer_stores(item: &Item, mut stores: Vec<Vec<u8>>) -> Vec<Option<Vec<u8>>> {
-    let store = item.store.as_deref().unwrap_or_default();
-    stores.retain(|one| store_plainness(one) < store_plainness(store));
-    stores.sort_by_key(|one| store_plainness(one));
-    let some = stores.into_iter().map(Some);
-    [None].into_iter().chain(some).collect()
-}
-
-/// Shorter is plainer; then smaller numbers are.
-fn store_plainness(store: &[u8]) -> (usize, usize) {
-    let sum = store.iter().map(|byte| usize::from(*byte)).sum();
-    (store.len(), sum)
-}
-
-/// Without one of its records; without a half, a quarter and so on; of a short one, without any span.
-fn shorter_stores(store: &[u8]) -> Vec<Vec<u8>> {
-    let records = records(store).unwrap_or_default();
-    let without_one = |at: usize| [&records[..at], &records[at + 1..]].concat().concat();
-    let mut all: Vec<Vec<u8>> = (0..records.len()).map(without_one).collect();
-    let halves = std::iter::successors(Some(store.len().div_ceil(2)), |length| Some(length / 2));
-    for length in halves.take_while(|length| *length > 0) {
-        all.extend(chunks(store, length).iter().map(|edit| edited(store, edit)));
-    }
-    all.extend(short_spans(store).iter().map(|edit| edited(store, edit)));
-    all
-}
-
-/// A byte becomes 0, 1, or one less.
-fn smaller_bytes(store: &[u8]) -> Vec<Vec<u8>> {
-    let smaller = |at: usize| {
-        let byte = store[at];
-        [0, 1, byte.saturating_sub(1)].map(|new| {
-            let mut bytes = store.to_vec();
-            bytes[at] = new;
-            bytes
-        })
-    };
-    (0..store.len()).flat_map(smaller).collect()
 }
 
 /// Shorter is plainer; then more of `a` and space.
@@ -357,7 +285,10 @@ mod tests {
 
     /// What remains of the text where the difference is there as long as `stays` says so.
     fn remains(text: &str, stays: fn(&str) -> bool) -> String {
-        let item = Item::plain(Reading::Stage, text.as_bytes().to_vec());
+        let item = Item {
+            reading: Reading::Stage,
+            bytes: text.as_bytes().to_vec(),
+        };
         let mut all = |candidates: &[Item]| {
             let text = |item: &Item| String::from_utf8_lossy(&item.bytes).into_owned();
             Ok(candidates.iter().map(|item| stays(&text(item))).collect())
@@ -405,55 +336,6 @@ mod tests {
             |text: &str| text.contains("={") && (text.ends_with("/>") || text.ends_with("</long>"));
         let text = "<long b={c}>text<d/></long>";
         assert_eq!(remains(text, one_element), "={/>");
-    }
-
-    /// What remains of a text and its store.
-    fn both_remain(text: &str, store: &[u8], stays: fn(&Item) -> bool) -> Item {
-        let item = Item::plain(Reading::Stage, text.as_bytes().to_vec());
-        let item = item.with_store(Some(store.to_vec()));
-        assert!(stays(&item));
-        let mut all = |candidates: &[Item]| Ok(candidates.iter().map(stays).collect());
-        shrunk(&item, &mut all).unwrap()
-    }
-
-    const STORE: &[u8] = b"ST\xC8\x02abST\x01\x01\x07ST\x02\x04\x09\0\0\0ST\x01\x01\x05";
-
-    #[test]
-    fn a_store_that_does_not_matter_goes() {
-        let left = both_remain("<a>!</a>", STORE, |item| item.bytes.contains(&b'!'));
-        assert_eq!(left, Item::plain(Reading::Stage, b"!".to_vec()));
-    }
-
-    #[test]
-    fn a_store_loses_what_does_not_matter() {
-        let left = both_remain("<a/>", STORE, |item| {
-            let store = item.store.as_deref().unwrap_or_default();
-            let records = records(store).unwrap_or_default();
-            records.iter().filter(|record| record[2] == 1).count() == 2
-        });
-        assert_eq!(left.store.as_deref(), Some(&b"ST\x01\0ST\x01\0"[..]));
-        assert_eq!(left.bytes, b"");
-        let left = both_remain("<a/>", b"ST\x80\x01xST\x80", |item| {
-            let store = item.store.as_deref().unwrap_or_default();
-            store.starts_with(b"S") && records(store).is_none()
-        });
-        assert_eq!(left.store.as_deref(), Some(&b"S"[..]));
-    }
-
-    /// A limit that is one less than the length goes down with it.
-    #[test]
-    fn a_length_limit_and_the_bytes_shrink_together() {
-        let text = "<a>some text, and ! in it</a>";
-        let store = [&STORE[..6], &of_length(text.len() - 1)].concat();
-        let left = both_remain(text, &store, |item| {
-            let store = item.store.as_deref().unwrap_or_default();
-            let limit = item.bytes.len().checked_sub(1).map(of_length);
-            item.bytes.contains(&b'!') && limit.is_some_and(|limit| store.ends_with(&limit))
-        });
-        assert_eq!(
-            (&left.bytes[..], left.store),
-            (&b"!"[..], Some(of_length(0)))
-        );
     }
 
     #[test]

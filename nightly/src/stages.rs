@@ -24,7 +24,8 @@ impl Stages {
             let name = path.file_name().unwrap_or_default();
             let name = name.to_string_lossy().into_owned();
             let bytes = fs::read(&path)?;
-            let item = Item::plain(reading_of(&name), bytes);
+            let reading = reading_of(&name);
+            let item = Item { reading, bytes };
             all.push(Stage { name, item });
         }
         if all.is_empty() {
@@ -78,7 +79,10 @@ mod tests {
     use super::*;
 
     fn stage(name: &str, text: &str) -> Stage {
-        let item = Item::plain(reading_of(name), text.as_bytes().to_vec());
+        let item = Item {
+            reading: reading_of(name),
+            bytes: text.as_bytes().to_vec(),
+        };
         let name = name.to_string();
         Stage { name, item }
     }

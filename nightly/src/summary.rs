@@ -1,7 +1,7 @@
 //! The table at the end of a run, for the states of one or more shards of it.
 
 use crate::state::State;
-use crate::tally::{Tally, ANSWER, COMPARED, DAMAGE, KNOWN, LEFT_OUT, NEW, SKIPPED, STORE};
+use crate::tally::{Tally, ANSWER, COMPARED, DAMAGE, KNOWN, LEFT_OUT, NEW, SKIPPED};
 
 /// What the shards have counted, together. States of other runs, or a shard twice, don't go together.
 pub fn merged(states: &[State]) -> Result<Tally, String> {
@@ -36,12 +36,6 @@ pub fn summary(states: &[State]) -> Result<String, String> {
     let parts = [
         head(states, &tally),
         counts("damage", tally.of(DAMAGE)),
-        counts(
-            "store in front",
-            tally
-                .of(STORE)
-                .map(|(word, count)| (store_words(word), count)),
-        ),
         counts(
             "port's answer",
             tally
@@ -83,14 +77,6 @@ fn head(states: &[State], tally: &Tally) -> String {
 fn answer_words(number: &str) -> String {
     match number.trim() {
         "0" => "accepted".to_string(),
-        number => format!("refused by {number}"),
-    }
-}
-
-/// By the port's answer to it.
-fn store_words(word: &str) -> String {
-    match word {
-        "none" | "set" => word.to_string(),
         number => format!("refused by {number}"),
     }
 }
@@ -150,7 +136,6 @@ mod tests {
         };
         let mut state = State::new(setup, 3);
         state.tally.add(DAMAGE, "none", 1);
-        state.tally.add(STORE, "33", 1);
         state.tally.add(ANSWER, " 0", 1);
         state.tally.add(COMPARED, "oracle", 1);
         state
@@ -168,7 +153,6 @@ mod tests {
         assert!(table.contains(
             "  oracle                     2           0           0           0           2\n"
         ));
-        assert!(table.contains("  refused by 33              2\n"));
         assert!(table.contains("2  oracle: both accept, it has more rows\n"));
     }
 

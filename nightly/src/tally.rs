@@ -7,10 +7,8 @@ pub struct Tally {
     counts: BTreeMap<(String, String), u64>,
 }
 
-/// What is counted. The second word is a damage, what the port says to the store in front, its number for the reading,
-/// a plug-in, or a plug-in with a class behind a tab.
+/// What is counted. The second word is a damage, a number, a plug-in, or a plug-in with a class behind a tab.
 pub const DAMAGE: &str = "damage";
-pub const STORE: &str = "store";
 pub const ANSWER: &str = "answer";
 pub const COMPARED: &str = "compared";
 pub const LEFT_OUT: &str = "left-out";

@@ -69,75 +69,19 @@ fn a_wrong_oracle_is_found_and_shrunk() {
             "--oracle",
             &right(),
             "--count",
-            "150",
+            "60",
             "--each",
             "2",
         ],
     );
     assert_eq!(done.status.code(), Some(1), "{}", text(&done.stderr));
-    let file = |name: &str| text(&fs::read(out.join(name)).expect("the file"));
-    let mut smallest: Vec<[String; 3]> = Vec::new();
-    for line in file("differences.txt").lines() {
-        let fields: Vec<&str> = line.split('\t').collect();
-        let name = fields.last().expect("the file's name");
-        let store = name.replace(".jsx", ".store").replace(".run", ".store");
-        let store = fs::read(out.join(store)).map(|bytes| text(&bytes));
-        let store = store.unwrap_or_else(|_| "none".to_string());
-        smallest.push([fields[2].to_string(), file(name), store]);
+    assert!(text(&done.stdout).contains("wrong: both accept, row of kind 14: depth differs"));
+    let differences = fs::read_to_string(out.join("differences.txt")).expect("a list");
+    assert_eq!(differences.lines().count(), 2);
+    for line in differences.lines() {
+        let file = line.split('\t').next_back().expect("the file's name");
+        assert_eq!(text(&fs::read(out.join(file)).expect("the file")), "{...");
     }
-    let reading = [
-        "wrong: both accept, row of kind 14: depth differs",
-        "{...",
-        "none",
-    ];
-    let stores = [
-        "wrong: store: both set, the length limit differs",
-        "",
-        "ST\x01\0ST\x01\0",
-    ];
-    for class in [reading, stores] {
-        assert!(text(&done.stdout).contains(class[0]));
-        assert_eq!(smallest.iter().filter(|found| **found == class).count(), 2);
-    }
-    assert_eq!(smallest.len(), 4, "{smallest:?}");
-}
-
-/// A parser knows no stores: it is asked for the readings alone, so that what is wrong with stores is not seen.
-#[test]
-fn a_parser_is_given_no_stores() {
-    let words = ["--parser", &wrong(), "--oracle", &right(), "--count", "150"];
-    let done = run(&folder("parser"), &words);
-    assert_eq!(done.status.code(), Some(1), "{}", text(&done.stderr));
-    let table = text(&done.stdout);
-    assert!(table.contains("wrong: both accept, row of kind 14: depth differs"));
-    assert!(table.contains("store in front") && !table.contains("wrong: store"));
-}
-
-/// For a store 0, for a reading as it is without one.
-#[test]
-fn the_domain_of_a_batch_with_stores() {
-    let out = folder("domain");
-    let write = |name: &str, bytes: &[u8]| fs::write(out.join(name), bytes).expect("a file");
-    write(
-        "items",
-        b"c\x05\0\0\0ST\x01\x01\x01s\x04\0\0\0<a/>s\x07\0\0\0<a>{b}<c\0\0\0\0r\x01\0\0\0<",
-    );
-    write(
-        "answers",
-        b"set 1 1048576\nok ?\nno 14 3 3 0 0\nset 64 1048576\nno 4 1 1 0 0\n",
-    );
-    let domain = |answers: &str| {
-        let files = ["items", answers].map(|file| out.join(file));
-        let done = Command::new(PROGRAM).arg("domain").args(files).output();
-        let done = done.expect("the program runs");
-        (done.status.code(), text(&done.stdout))
-    };
-    assert_eq!(domain("answers"), (Some(0), "0\n1\n0\n0\n1\n".to_string()));
-    write(
-        "wrong",
-        b"ok 0\nok ?\nno 14 3 3 0 0\nset 64 1048576\nno 4 1 1 0 0\n",
-    );
-    assert_eq!(domain("wrong").0, Some(2));
 }
 
 /// What was counted and found, without how many items were asked for in which call.

@@ -1,35 +1,22 @@
 //! Files of cases: one case a line, `reading class hex answer` with single spaces between.
 
-use crate::batch::Item;
-use crate::forms::{case_form, settings_case_form};
-use crate::{read, settings, Limits, Reading};
+use crate::forms::case_form;
+use crate::{read, Limits, Reading};
 use std::fmt::Write;
 
-/// What a case asks.
-#[derive(Clone, Debug, PartialEq, Eq)]
-pub enum Asked {
-    /// `S`, `R`: a stage, a run.
-    Read(Reading),
-    /// `T`: a settings store.
-    Set,
-    /// `s`, `r`: a stage, a run, with the limits that a store gives.
-    ReadBehind(Vec<u8>, Reading),
-}
-
 pub struct Case {
-    pub asked: Asked,
+    pub reading: Reading,
     pub class: String,
     pub input: Vec<u8>,
     pub answer: String,
 }
 
 impl Case {
-    /// A reading with this oracle's answer.
+    /// The case with this oracle's answer.
     pub fn answered(reading: Reading, class: &str, input: Vec<u8>) -> Case {
-        let asked = Asked::Read(reading);
-        let answer = answer(&asked, &input);
+        let answer = case_form(&read(&input, reading, Limits::default()));
         Case {
-            asked,
+            reading,
             class: class.to_string(),
             input,
             answer,
@@ -37,54 +24,25 @@ impl Case {
     }
 
     pub fn line(&self) -> String {
-        let letter = match self.asked {
-            Asked::Read(Reading::Stage) => "S",
-            Asked::Read(Reading::Run) => "R",
-            Asked::Set => "T",
-            Asked::ReadBehind(_, Reading::Stage) => "s",
-            Asked::ReadBehind(_, Reading::Run) => "r",
+        let reading = match self.reading {
+            Reading::Stage => "S",
+            Reading::Run => "R",
         };
-        let hex = match &self.asked {
-            Asked::ReadBehind(store, _) => format!("{}/{}", to_hex(store), to_hex(&self.input)),
-            _ => to_hex(&self.input),
-        };
-        format!("{letter} {} {hex} {}", self.class, self.answer)
+        let hex = to_hex(&self.input);
+        format!("{reading} {} {hex} {}", self.class, self.answer)
     }
 
     pub fn of_line(line: &str) -> Option<Case> {
         let fields: Vec<&str> = line.split(' ').collect();
-        let [letter, class, hex, answer] = fields[..] else {
+        let [reading, class, hex, answer] = fields[..] else {
             return None;
         };
-        let (asked, input) = asked_of(letter, hex)?;
         Some(Case {
-            asked,
+            reading: reading_of(reading)?,
             class: class.to_string(),
-            input,
+            input: from_hex(hex)?,
             answer: answer.to_string(),
         })
-    }
-
-    /// The case in a batch: a reading behind a store is two items.
-    pub fn items(self) -> Vec<Item> {
-        match self.asked {
-            Asked::Read(reading) => vec![Item::Read(reading, self.input)],
-            Asked::Set => vec![Item::Set(self.input)],
-            Asked::ReadBehind(store, reading) => {
-                vec![Item::Set(store), Item::Read(reading, self.input)]
-            }
-        }
-    }
-}
-
-/// This oracle's answer.
-fn answer(asked: &Asked, input: &[u8]) -> String {
-    match asked {
-        Asked::Read(reading) => case_form(&read(input, *reading, Limits::default())),
-        Asked::Set => settings_case_form(&settings(input)),
-        Asked::ReadBehind(store, reading) => {
-            case_form(&read(input, *reading, settings(store).limits()))
-        }
     }
 }
 
@@ -114,11 +72,11 @@ fn difference(line: &str) -> Option<String> {
     let Some(case) = Case::of_line(line) else {
         return Some("not a case".to_string());
     };
-    let answer = answer(&case.asked, &case.input);
+    let answer = case_form(&read(&case.input, case.reading, Limits::default()));
     (answer != case.answer).then(|| {
         format!(
-            "{} {} {:?}\n  there {}\n  here  {answer}",
-            case.asked.in_words(),
+            "{:?} {} {:?}\n  there {}\n  here  {answer}",
+            case.reading,
             case.class,
             String::from_utf8_lossy(&case.input),
             case.answer
@@ -126,31 +84,12 @@ fn difference(line: &str) -> Option<String> {
     })
 }
 
-impl Asked {
-    fn in_words(&self) -> String {
-        match self {
-            Asked::Read(reading) => format!("{reading:?}"),
-            Asked::Set => "Store".to_string(),
-            Asked::ReadBehind(store, reading) => format!("{reading:?} behind {}", to_hex(store)),
-        }
+fn reading_of(letter: &str) -> Option<Reading> {
+    match letter {
+        "S" => Some(Reading::Stage),
+        "R" => Some(Reading::Run),
+        _ => None,
     }
-}
-
-fn asked_of(letter: &str, hex: &str) -> Option<(Asked, Vec<u8>)> {
-    let behind = |reading: Reading| {
-        let (store, input) = hex.split_once('/')?;
-        let asked = Asked::ReadBehind(from_hex(store)?, reading);
-        Some((asked, from_hex(input)?))
-    };
-    let asked = match letter {
-        "S" => Asked::Read(Reading::Stage),
-        "R" => Asked::Read(Reading::Run),
-        "T" => Asked::Set,
-        "s" => return behind(Reading::Stage),
-        "r" => return behind(Reading::Run),
-        _ => return None,
-    };
-    Some((asked, from_hex(hex)?))
 }
 
 /// `-` for the empty input.

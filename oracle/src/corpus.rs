@@ -1,17 +1,14 @@
 //! A list of inputs, the same on every machine, with this oracle's answers.
 
-use crate::batch::Item;
 use crate::blanks;
 use crate::blocks;
 use crate::borders;
-use crate::cases::{Asked, Case};
+use crate::cases::Case;
 use crate::deep;
 use crate::forms::case_form;
-use crate::limited;
 use crate::named;
 use crate::random::Random;
 use crate::scripts;
-use crate::stores::{self, List, Listed};
 use crate::table::{records, Node};
 use crate::writer::{Plan, Writer};
 use crate::Reading::{self, Run, Stage};
@@ -103,54 +100,19 @@ pub fn corpus() -> Vec<Case> {
 /// The corpus as it is stored: of the deep ones the stages alone, since a program of the gate may write 1,048,576
 /// bytes.
 pub fn stored() -> Vec<Case> {
-    let kept = |case: &Case| case.class != "deep" || case.asked == Asked::Read(Stage);
+    let kept = |case: &Case| case.class != "deep" || case.reading == Stage;
     corpus().into_iter().filter(kept).collect()
 }
 
-/// The second list: inputs for request 7, then those for request 14. A program of the gate may write 1,048,576 bytes,
-/// and the first list has no room for them.
-pub fn second() -> Vec<Item> {
-    let mut items = items_of(borders());
-    items.extend(with_stores().into_iter().map(|listed| listed.item));
-    items
-}
-
-/// The cases as a batch.
-pub fn items_of(cases: Vec<Case>) -> Vec<Item> {
-    cases.into_iter().flat_map(Case::items).collect()
-}
-
-/// Inputs for request 14: stores, and readings with the limits that they give. These stay for all items behind a store;
-/// the last item is an empty one, so that document 01's hold at the end.
-pub fn with_stores() -> Vec<Listed> {
-    let mut list = List::default();
-    for case in LAB_SETTINGS.lines().filter_map(Case::of_line) {
-        let class = match case.asked {
-            Asked::Set => "lab-store",
-            _ => "lab-set",
-        };
-        for item in case.items() {
-            match item {
-                Item::Set(store) => list.store(class, store),
-                Item::Read(reading, input) => list.reading(class, reading, input),
-            }
-        }
-    }
-    stores::stores(&mut list);
-    limited::readings(&mut list);
-    list.items
-}
-
-/// Inputs for request 7.
+/// The second list: inputs for request 7. A program of the gate may write 1,048,576 bytes, and the first list has no
+/// room for them.
 pub fn borders() -> Vec<Case> {
     let mut cases = Vec::new();
     for named in named::of_request_7() {
         both_readings(&mut cases, "named", &named.input);
     }
-    for case in LAB_NAMES.lines().filter_map(Case::of_line) {
-        if let Asked::Read(reading) = case.asked {
-            cases.push(Case::answered(reading, "lab", case.input));
-        }
+    for case in LAB_CASES.lines().filter_map(Case::of_line) {
+        cases.push(Case::answered(case.reading, "lab", case.input));
     }
     for known in borders::inputs().into_iter().chain(scripts::inputs()) {
         let (reading, class) = (known.reading, known.class);
@@ -164,39 +126,13 @@ pub fn borders() -> Vec<Case> {
 }
 
 /// The lab's own cases of request 7. Its answers are there too; a test holds these against them.
-pub const LAB_NAMES: &str = include_str!("../cases/names.txt");
-/// Those of request 14.
-pub const LAB_SETTINGS: &str = include_str!("../cases/settings.txt");
-
-/// One item by its seed. Of 32 neighbours the last eight are stores and readings near the limits that these give, by
-/// turns; behind the last store document 01's limits hold. All others are readings.
-pub fn random(seed: u64) -> Item {
-    let turn = seed % 32;
-    if turn < 24 {
-        let (reading, bytes) = random_reading(seed);
-        return Item::Read(reading, bytes);
-    }
-    if turn.is_multiple_of(2) {
-        return Item::Set(random_store(seed));
-    }
-    let store = random_store(seed - 1);
-    let (reading, bytes) = limited::drawn_behind(&mut Random::seeded(seed), &store);
-    Item::Read(reading, bytes)
-}
-
-fn random_store(seed: u64) -> Vec<u8> {
-    let mut random = Random::seeded(seed);
-    match seed % 32 {
-        30 => stores::drawn_restoring(&mut random),
-        _ => stores::drawn(&mut random),
-    }
-}
+pub const LAB_CASES: &str = include_str!("../cases/names.txt");
 
 /// One input by its seed: with names of any script some one time in four; else valid, with a planted fault, some
 /// bytes, the same behind a beginning or behind one that leaves something open, blanks and tokens behind a beginning,
 /// a deep one's end, a long text, string or comment, or valid and then damaged, now and then by a long stretch put
 /// in.
-fn random_reading(seed: u64) -> (Reading, Vec<u8>) {
+pub fn random(seed: u64) -> (Reading, Vec<u8>) {
     let mut random = Random::seeded(seed);
     let reading = if random.once_in(2) { Stage } else { Run };
     let names_of_any_script = seed / 2 % 2 == 1;
@@ -283,44 +219,19 @@ fn some_of(random: &mut Random, pieces: &[&str]) -> Vec<u8> {
     some.into_bytes()
 }
 
-/// The count of readings by class, as rows of a table, with the sum.
+/// The count of cases by class, as rows of a table, with the sum.
 pub fn classes(cases: &[Case]) -> String {
-    let column = |case: &Case| usize::from(case.asked == Asked::Read(Run));
-    let classes = cases.iter().map(|case| (&case.class[..], column(case)));
-    counted(["stages", "runs"], classes)
-}
-
-/// The same of items with stores.
-pub fn classes_with_stores(items: &[Listed]) -> String {
-    let column = |item: &Item| match item {
-        Item::Set(_) => 0,
-        Item::Read(Stage, _) => 1,
-        Item::Read(Run, _) => 2,
-    };
-    let classes = items.iter().map(|item| (item.class, column(&item.item)));
-    counted(["stores", "stages", "runs"], classes)
-}
-
-/// How many there are of each class in each column.
-fn counted<'a, const N: usize>(
-    heads: [&str; N],
-    all: impl Iterator<Item = (&'a str, usize)>,
-) -> String {
-    let mut counts: BTreeMap<&str, [usize; N]> = BTreeMap::new();
-    let mut sums = [0; N];
-    for (class, column) in all {
-        counts.entry(class).or_insert([0; N])[column] += 1;
-        sums[column] += 1;
+    let mut counts: BTreeMap<&str, [usize; 2]> = BTreeMap::new();
+    for case in cases {
+        let column = usize::from(case.reading == Run);
+        counts.entry(&case.class).or_default()[column] += 1;
     }
-    let row = |first: &str, cells: &[String]| format!("| {first} | {} |\n", cells.join(" | "));
-    let numbers = |counts: &[usize; N]| counts.map(|count| count.to_string());
-    let mut rows = row("class", &heads.map(String::from));
-    rows += &format!("|{}\n", "---|".repeat(N + 1));
-    for (class, counts) in &counts {
-        rows += &row(class, &numbers(counts));
+    let mut rows = String::from("| class | stages | runs |\n|---|---|---|\n");
+    for (class, [stages, runs]) in &counts {
+        rows += &format!("| {class} | {stages} | {runs} |\n");
     }
-    let all = format!("all {}", sums.iter().sum::<usize>());
-    rows + &row(&all, &numbers(&sums))
+    let column = |n: usize| counts.values().map(|row| row[n]).sum::<usize>();
+    rows + &format!("| all {} | {} | {} |\n", cases.len(), column(0), column(1))
 }
 
 fn both_readings(cases: &mut Vec<Case>, class: &str, input: &[u8]) {
@@ -368,12 +279,6 @@ fn write_by(mut writer: Writer, reading: Reading) -> Written {
 fn written_valid(number: usize) -> (Reading, Written) {
     let reading = if number % 5 < 3 { Stage } else { Run };
     (reading, write(1_000_000 + number as u64, reading, None))
-}
-
-/// A valid input by its number.
-pub(crate) fn valid_input(number: usize) -> (Reading, Vec<u8>) {
-    let (reading, written) = written_valid(number);
-    (reading, written.bytes)
 }
 
 impl Written {
@@ -643,7 +548,7 @@ fn utf8(random: &mut Random, bytes: &[u8]) -> Vec<u8> {
 
 fn deep_whole(number: usize) -> deep::Deep {
     let mut random = Random::seeded(4_000_000 + number as u64);
-    deep::whole(&mut random, 61 + number % 7, Limits::default().depth)
+    deep::whole(&mut random, 61 + number % 7)
 }
 
 /// The bytes, held against the depth that they were made with.
@@ -750,7 +655,7 @@ fn plain_stretches(cases: &mut Vec<Case>) {
 #[cfg(test)]
 mod tests {
     use super::*;
-    use crate::batch;
+    use crate::forms::program_form;
     use crate::table::{Record, ROW_WORDS};
 
     fn answer(reading: Reading, input: &[u8]) -> Answer {
@@ -978,48 +883,25 @@ mod tests {
         let readme = include_str!("../README.md");
         assert!(readme.contains(&classes(&corpus())));
         assert!(readme.contains(&classes(&borders())));
-        assert!(readme.contains(&classes_with_stores(&with_stores())));
     }
 
     /// The kit takes 1,048,576 bytes of a program's standard output.
     #[test]
     fn both_lists_have_room() {
-        for (list, room) in [(items_of(stored()), 1_048_576), (second(), 900_000)] {
-            let mut limits = Limits::default();
-            let bytes = |item: &Item| batch::answer(item, &mut limits).len();
+        for (list, room) in [(stored(), 1_048_576), (borders(), 900_000)] {
+            let bytes = |case: &Case| program_form(&answer(case.reading, &case.input)).len();
             let all: usize = list.iter().map(bytes).sum();
             assert!(all < room, "{all}");
         }
-    }
-
-    /// The inputs for request 7 hold no store and stand in front of the first.
-    #[test]
-    fn the_second_list_begins_and_ends_with_document_01_s_limits() {
-        let mut limits = Limits::default();
-        for item in items_of(borders()) {
-            assert!(matches!(item, Item::Read(..)));
-        }
-        let listed = with_stores();
-        assert!(matches!(listed[0].item, Item::Set(_)));
-        for listed in &listed {
-            batch::answer(&listed.item, &mut limits);
-        }
-        let last = listed.last().map(|listed| &listed.item);
-        assert_eq!(last, Some(&Item::Set(Vec::new())));
-        assert_eq!(limits, Limits::default());
     }
 
     #[test]
     fn lines_of_the_corpus_are_read_back() {
         for case in corpus().iter().filter(|case| case.class != "limit") {
             let back = Case::of_line(&case.line()).expect("a case");
-            assert_eq!((&back.asked, &back.class), (&case.asked, &case.class));
+            assert_eq!((back.reading, &back.class), (case.reading, &case.class));
             assert_eq!((&back.input, &back.answer), (&case.input, &case.answer));
-            assert_eq!(back.line(), case.line());
-        }
-        for line in LAB_SETTINGS.lines() {
-            let case = Case::of_line(line).expect("a case");
-            assert_eq!(case.line(), line);
+            assert_eq!(back.answer, case_form(&answer(back.reading, &back.input)));
         }
     }
 }

@@ -108,8 +108,8 @@ struct Opened {
     firsts: Vec<usize>,
 }
 
-/// A whole stage that is `depth` deep, read with a limit.
-pub(crate) fn whole(random: &mut Random, depth: usize, limit: usize) -> Deep {
+/// A whole stage that is `depth` deep.
+pub(crate) fn whole(random: &mut Random, depth: usize) -> Deep {
     let mut opened = open(random, depth);
     let inside = match opened.place {
         Expression | Operand => "b",
@@ -120,31 +120,17 @@ pub(crate) fn whole(random: &mut Random, depth: usize, limit: usize) -> Deep {
         opened.bytes += closer;
     }
     Deep {
-        refusal: opened
-            .firsts
-            .get(limit)
-            .map(|&first| Refusal::at(14, first)),
+        refusal: opened.firsts.get(64).map(|&first| Refusal::at(14, first)),
         bytes: opened.bytes.into_bytes(),
     }
-}
-
-/// So many levels that are opened and not closed, and the first byte of each.
-pub(crate) fn opened(random: &mut Random, depth: usize) -> (Vec<u8>, Vec<usize>) {
-    let opened = open(random, depth);
-    (opened.bytes.into_bytes(), opened.firsts)
 }
 
 /// A stage open to the 63rd or 64th level, ended by a tail that may or may not be a level more.
 pub(crate) fn tail(random: &mut Random) -> Vec<u8> {
     let depth = 63 + random.below(2);
-    tail_behind(random, depth)
-}
-
-/// A stage open to a level, ended by a tail that may or may not be a level more.
-pub(crate) fn tail_behind(random: &mut Random, depth: usize) -> Vec<u8> {
     let mut opened = open(random, depth);
     let tails = match opened.place {
-        Child | Markup => &CHILD_TAILS[..],
+        Child => &CHILD_TAILS[..],
         Attributes => &ATTRIBUTE_TAILS[..],
         _ => &EXPRESSION_TAILS[..],
     };

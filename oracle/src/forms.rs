@@ -1,6 +1,5 @@
 //! Answers in writing: the program's form, and the form of a file of cases.
 
-use crate::settings::Settings;
 use crate::{Answer, Record, NO_PARENT, ROW_WORDS};
 
 /// D: "`ok 6`" and a row a record; "A refusal prints as `no 7 1 2 5 6`". A25: each line ends with LF.
@@ -8,21 +7,11 @@ use crate::{Answer, Record, NO_PARENT, ROW_WORDS};
 pub fn program_form(answer: &Answer) -> String {
     match answer {
         Answer::Accepted(records) => rows(records),
-        Answer::Refused { number, places } => refusal(*number, places),
+        Answer::Refused { number, places } => {
+            let [a, b, c, d] = places;
+            format!("no {number} {a} {b} {c} {d}\n")
+        }
     }
-}
-
-/// The answer of a batch to a store: `set DEPTH LENGTH`, or a refusal as every other.
-pub fn settings_form(settings: &Settings) -> String {
-    match settings {
-        Settings::Set(limits) => format!("set {} {}\n", limits.depth, limits.bytes),
-        Settings::Refused { number, places } => refusal(*number, places),
-    }
-}
-
-fn refusal(number: u32, places: &[usize; 4]) -> String {
-    let [a, b, c, d] = places;
-    format!("no {number} {a} {b} {c} {d}\n")
 }
 
 fn rows(records: &[Record]) -> String {
@@ -41,23 +30,11 @@ pub fn case_form(answer: &Answer) -> String {
             let joined = records_in_form.join("|");
             format!("0:0,0:0,0:{}:{joined}", records.len())
         }
-        Answer::Refused { number, places } => refusal_case(*number, places) + ":0:",
+        Answer::Refused { number, places } => {
+            let [a, b, c, d] = places;
+            format!("{number}:{a},{b}:{c},{d}:0:")
+        }
     }
-}
-
-/// `number:a,b:c,d:depth:length`: the two limits that hold behind the store.
-pub fn settings_case_form(settings: &Settings) -> String {
-    let first = match settings {
-        Settings::Set(_) => refusal_case(0, &[0; 4]),
-        Settings::Refused { number, places } => refusal_case(*number, places),
-    };
-    let limits = settings.limits();
-    format!("{first}:{}:{}", limits.depth, limits.bytes)
-}
-
-fn refusal_case(number: u32, places: &[usize; 4]) -> String {
-    let [a, b, c, d] = places;
-    format!("{number}:{a},{b}:{c},{d}")
 }
 
 fn words(record: &Record, between: &str) -> String {

@@ -1,9 +1,8 @@
-//! The language of document 01, with requests 5, 3, 1, 7 and 14 of document 02, read a second time, from the documents
+//! The language of document 01, with requests 5, 3, 1 and 7 of document 02, read a second time, from the documents
 //! alone.
 //!
 //! "D:" in the comments quotes document 01, "D2:" document 02; A1 to A28 are the readings of the first's open points,
-//! 5.1 to 5.9, 3.1 to 3.14, 1.1 to 1.16, 7.1 to 7.17 and 14.1 to 14.15 those of the requests'. Request 2 changes no
-//! answer.
+//! 5.1 to 5.9, 3.1 to 3.14, 1.1 to 1.16 and 7.1 to 7.17 those of the requests'. Request 2 changes no answer.
 //! The reader is plain recursive descent. It builds a tree of nodes; `table` numbers the tree
 //! into records. Nothing here is fast and nothing is shared with the code that is held against it.
 
@@ -15,13 +14,10 @@ mod characters;
 mod cursor;
 mod deep;
 mod expression;
-mod limited;
 mod markup;
 mod names;
 mod random;
 mod scripts;
-mod settings;
-mod stores;
 mod table;
 mod writer;
 
@@ -31,7 +27,6 @@ pub mod corpus;
 pub mod forms;
 pub mod named;
 
-pub use settings::{settings, Settings};
 pub use table::{kind, Record, NO_PARENT, ROW_WORDS};
 
 /// D: "The two readings".
@@ -43,7 +38,7 @@ pub enum Reading {
     Run,
 }
 
-/// The limits that a call is made with. D2: "refusals 1 and 14 move with them".
+/// The limits that a call is made with.
 #[derive(Clone, Copy, Debug, PartialEq, Eq)]
 pub struct Limits {
     pub bytes: usize,

@@ -1,6 +1,6 @@
 //! The oracle as a program: see README.md.
 
-use oracle::{batch, cases, corpus};
+use oracle::{batch, cases, corpus, Reading};
 use std::io::{self, Read, Write};
 use std::process::ExitCode;
 
@@ -17,8 +17,8 @@ fn main() -> io::Result<ExitCode> {
         ["cases", file] => return hold(file),
         ["corpus"] => write_corpus()?,
         ["classes"] => write_classes()?,
-        ["items"] => write_items(corpus::items_of(corpus::stored()).into_iter())?,
-        ["borders"] => write_items(corpus::second().into_iter())?,
+        ["items"] => write_items(items_of(corpus::stored()))?,
+        ["borders"] => write_items(items_of(corpus::borders()))?,
         ["random", seed, count] => return write_random(seed, count),
         ["against", items] => return against(items),
         _ => {
@@ -57,17 +57,20 @@ fn write_corpus() -> io::Result<()> {
     output.flush()
 }
 
-/// The count of the corpus by class, then those of the second list, as the rows of the tables in README.md.
+/// The count of the corpus by class, then that of the second list, as the rows of the tables in README.md.
 fn write_classes() -> io::Result<()> {
     let [first, second] = [corpus::corpus(), corpus::borders()].map(|list| corpus::classes(&list));
-    let third = corpus::classes_with_stores(&corpus::with_stores());
-    write!(io::stdout(), "{first}\n{second}\n{third}")
+    write!(io::stdout(), "{first}\n{second}")
 }
 
-fn write_items(items: impl Iterator<Item = batch::Item>) -> io::Result<()> {
+fn items_of(cases: Vec<cases::Case>) -> impl Iterator<Item = (Reading, Vec<u8>)> {
+    cases.into_iter().map(|case| (case.reading, case.input))
+}
+
+fn write_items(items: impl Iterator<Item = (Reading, Vec<u8>)>) -> io::Result<()> {
     let mut output = io::BufWriter::new(io::stdout().lock());
-    for item in items {
-        output.write_all(&item.in_a_batch())?;
+    for (reading, bytes) in items {
+        output.write_all(&batch::item(reading, &bytes))?;
     }
     output.flush()
 }
@@ -101,8 +104,6 @@ fn against(items: &str) -> io::Result<ExitCode> {
         "item: {}",
         String::from_utf8_lossy(&first.item).escape_debug()
     );
-    let (depth, bytes) = (first.within.depth, first.within.bytes);
-    println!("limits: {depth} levels, {bytes} bytes");
     println!("the oracle: {}", first.answer.escape_debug());
     println!(
         "the other: {}",

@@ -15,18 +15,6 @@ type Check = unsafe extern "C" fn(*const u8, usize, *mut [usize; 4]) -> u32;
 
 type Read = unsafe extern "C" fn(*const u8, usize, *mut u32, usize, *mut [usize; 4]) -> u32;
 
-type CheckWithin =
-    unsafe extern "C" fn(*const u8, usize, *const [usize; 2], *mut [usize; 4]) -> u32;
-
-type ReadWithin = unsafe extern "C" fn(
-    *const u8,
-    usize,
-    *const [usize; 2],
-    *mut u32,
-    usize,
-    *mut [usize; 4],
-) -> u32;
-
 extern "C" {
     fn lorikvar_check_stage(input: *const u8, length: usize, values: *mut [usize; 4]) -> u32;
     fn lorikvar_check_run(input: *const u8, length: usize, values: *mut [usize; 4]) -> u32;
@@ -40,40 +28,6 @@ extern "C" {
     fn lorikvar_read_run(
         input: *const u8,
         length: usize,
-        table: *mut u32,
-        words: usize,
-        values: *mut [usize; 4],
-    ) -> u32;
-    fn lorikvar_settings(
-        store: *const u8,
-        length: usize,
-        limits: *mut [usize; 2],
-        values: *mut [usize; 4],
-    ) -> u32;
-    fn lorikvar_check_stage_within(
-        input: *const u8,
-        length: usize,
-        limits: *const [usize; 2],
-        values: *mut [usize; 4],
-    ) -> u32;
-    fn lorikvar_check_run_within(
-        input: *const u8,
-        length: usize,
-        limits: *const [usize; 2],
-        values: *mut [usize; 4],
-    ) -> u32;
-    fn lorikvar_read_stage_within(
-        input: *const u8,
-        length: usize,
-        limits: *const [usize; 2],
-        table: *mut u32,
-        words: usize,
-        values: *mut [usize; 4],
-    ) -> u32;
-    fn lorikvar_read_run_within(
-        input: *const u8,
-        length: usize,
-        limits: *const [usize; 2],
         table: *mut u32,
         words: usize,
         values: *mut [usize; 4],
@@ -127,56 +81,6 @@ fn read(call: Read, input: &[u8], words: &mut [u32]) -> Said {
         call(
             input.as_ptr(),
             input.len(),
-            words.as_mut_ptr(),
-            words.len(),
-            &mut values,
-        )
-    };
-    Said { number, values }
-}
-
-/// The depth and length limits that hold after a store was read, whatever is said of it.
-pub(crate) fn settings(store: &[u8]) -> (Said, [usize; 2]) {
-    let (mut limits, mut values) = ([0; 2], [0; 4]);
-    // SAFETY: `store` is a slice; `limits` and `values` are this function's own.
-    let number =
-        unsafe { lorikvar_settings(store.as_ptr(), store.len(), &mut limits, &mut values) };
-    (Said { number, values }, limits)
-}
-
-pub(crate) fn check_stage_within(input: &[u8], limits: [usize; 2]) -> Said {
-    check_within(lorikvar_check_stage_within, input, limits)
-}
-
-pub(crate) fn check_run_within(input: &[u8], limits: [usize; 2]) -> Said {
-    check_within(lorikvar_check_run_within, input, limits)
-}
-
-pub(crate) fn read_stage_within(input: &[u8], limits: [usize; 2], words: &mut [u32]) -> Said {
-    read_within(lorikvar_read_stage_within, input, limits, words)
-}
-
-pub(crate) fn read_run_within(input: &[u8], limits: [usize; 2], words: &mut [u32]) -> Said {
-    read_within(lorikvar_read_run_within, input, limits, words)
-}
-
-fn check_within(call: CheckWithin, input: &[u8], limits: [usize; 2]) -> Said {
-    let mut values = [0; 4];
-    // SAFETY: `call` is one of the two checks within limits above; `input` is a slice, and `limits` and `values`
-    // are this function's own.
-    let number = unsafe { call(input.as_ptr(), input.len(), &limits, &mut values) };
-    Said { number, values }
-}
-
-fn read_within(call: ReadWithin, input: &[u8], limits: [usize; 2], words: &mut [u32]) -> Said {
-    let mut values = [0; 4];
-    // SAFETY: `call` is one of the two reads within limits above; `input` and `words` are slices, `words` is
-    // lent by a `&mut`, and `limits` and `values` are this function's own.
-    let number = unsafe {
-        call(
-            input.as_ptr(),
-            input.len(),
-            &limits,
             words.as_mut_ptr(),
             words.len(),
             &mut values,

@@ -40,27 +40,11 @@
 //! each of the 18 refusals by name, with its places. `Result` is that enum already: it must be looked at, `?`
 //! hands a refusal up, and nothing of a table can be reached through a refusal.
 //!
-//! # Limits and settings
-//!
-//! A reading has two limits: the most levels of depth and the most bytes of an input. Document 01's are
-//! [`MOST_DEPTH`] and [`MOST_BYTES`]. A settings store carries smaller ones from one device to the next: [`Settings`]
-//! reads such a store, and writes one; the functions that end in `_within` read by the [`Limits`] that it gives. A
-//! store that is refused refuses no reading: document 01's limits hold then.
-//!
-//! ```
-//! use lorikvar::{check_stage_within, Limits, Refusal, Settings, SettingsRefusal};
-//!
-//! let limits = Settings::read(b"ST\x01\x01\x02")?;
-//! assert_eq!(limits, Limits::new(2, 1_048_576).unwrap());
-//! assert_eq!(check_stage_within(b"<a><b><c/></b></a>", &limits), Err(Refusal::TooDeep { at: 6 }));
-//! # Ok::<(), SettingsRefusal>(())
-//! ```
-//!
 //! # Memory and threads
 //!
-//! Reading allocates nothing, but for [`read_stage_vec`], [`read_run_vec`] and their kin `_within`, which allocate
-//! once. An input of n bytes has at most n records. The calls have no state: several threads may read at once. Depth
-//! is at most [`MOST_DEPTH`], so the stack is bounded, below 128 KiB.
+//! Reading allocates nothing, but for [`read_stage_vec`] and [`read_run_vec`], which allocate once. An input of
+//! n bytes has at most n records. The calls have no state: several threads may read at once. Depth is at most
+//! [`MOST_DEPTH`], so the stack is bounded, below 128 KiB.
 
 #![deny(missing_docs)]
 #![deny(unsafe_op_in_unsafe_fn)]
@@ -68,33 +52,28 @@
 mod ffi;
 mod iter;
 mod kind;
-mod limits;
 mod read;
 mod record;
 mod refusal;
-mod settings;
 mod shape;
 mod span;
 mod table;
 
 pub use iter::{Children, Records};
 pub use kind::Kind;
-pub use limits::Limits;
 pub use read::{
-    check_run, check_run_within, check_stage, check_stage_within, read_run, read_run_vec,
-    read_run_vec_within, read_run_within, read_stage, read_stage_vec, read_stage_vec_within,
-    read_stage_within, record_bytes, span_bytes,
+    check_run, check_stage, read_run, read_run_vec, read_stage, read_stage_vec, record_bytes,
+    span_bytes,
 };
 pub use record::Record;
 pub use refusal::Refusal;
-pub use settings::{Settings, SettingsError, SettingsRefusal};
 pub use span::Span;
 pub use table::{OwnedTable, Table};
 
-/// Document 01's length limit, the most bytes of an input. No other is greater.
+/// The most bytes of an input.
 pub const MOST_BYTES: usize = 1_048_576;
 
-/// Document 01's depth limit, the most levels. No other is greater.
+/// The most levels of depth.
 pub const MOST_DEPTH: usize = 64;
 
 /// The words of a record: kind, start, end, parent, after, extra, depth.

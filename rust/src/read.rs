@@ -1,5 +1,5 @@
 use crate::ffi::{self, Said};
-use crate::{Limits, OwnedTable, Refusal, Table, ROW_WORDS};
+use crate::{OwnedTable, Refusal, Table, ROW_WORDS};
 
 /// Checks a stage (blanks, one element or fragment, blanks, end of input) and counts its records.
 ///
@@ -93,85 +93,6 @@ pub fn read_stage_vec(input: &[u8]) -> Result<OwnedTable<'_>, Refusal> {
 pub fn read_run_vec(input: &[u8]) -> Result<OwnedTable<'_>, Refusal> {
     let mut words = vec![0; check_run(input)? * ROW_WORDS];
     count(ffi::read_run(input, &mut words))?;
-    Ok(OwnedTable::of_read(input, words))
-}
-
-/// Checks a stage as [`check_stage`] does, within these limits.
-///
-/// ```
-/// use lorikvar::{check_stage, check_stage_within, Limits, Refusal};
-///
-/// let limits = Limits::new(2, 100).unwrap();
-/// assert_eq!(check_stage_within(b"<a>{b}</a>", &limits), Ok(7));
-/// assert_eq!(check_stage_within(b"<a>{(b)}</a>", &limits), Err(Refusal::TooDeep { at: 4 }));
-/// assert_eq!(check_stage_within(&[b' '; 101], &limits), Err(Refusal::TooLong));
-/// assert_eq!(check_stage_within(b"<a>{(b)}</a>", &Limits::default()), check_stage(b"<a>{(b)}</a>"));
-/// ```
-pub fn check_stage_within(input: &[u8], limits: &Limits) -> Result<usize, Refusal> {
-    count(ffi::check_stage_within(input, limits.lent()))
-}
-
-/// Checks a run as [`check_run`] does, within these limits.
-///
-/// ```
-/// use lorikvar::{check_run_within, Limits, Refusal};
-///
-/// let limits = Limits::new(1, 0).unwrap();
-/// assert_eq!(check_run_within(b"", &limits), Ok(0));
-/// assert_eq!(check_run_within(b"hi", &limits), Err(Refusal::TooLong));
-/// ```
-pub fn check_run_within(input: &[u8], limits: &Limits) -> Result<usize, Refusal> {
-    count(ffi::check_run_within(input, limits.lent()))
-}
-
-/// Reads a stage into the words that are lent as [`read_stage`] does, within these limits.
-///
-/// ```
-/// use lorikvar::{read_stage_within, Limits, Refusal, ROW_WORDS};
-///
-/// let mut words = [0; 100 * ROW_WORDS];
-/// let limits = Limits::new(1, 9).unwrap();
-/// let table = read_stage_within(b"<v>hi</v>", &limits, &mut words)?;
-/// assert_eq!(table.record(3).map(|record| record.text()), Some("hi"));
-/// assert_eq!(read_stage_within(b"<v>hi!</v>", &limits, &mut words).err(), Some(Refusal::TooLong));
-/// # Ok::<(), Refusal>(())
-/// ```
-pub fn read_stage_within<'i, 't>(
-    input: &'i [u8],
-    limits: &Limits,
-    words: &'t mut [u32],
-) -> Result<Table<'i, 't>, Refusal> {
-    let count = count(ffi::read_stage_within(input, limits.lent(), words))?;
-    Ok(Table::of_read(input, words, count))
-}
-
-/// Reads a run into the words that are lent as [`read_run`] does, within these limits.
-pub fn read_run_within<'i, 't>(
-    input: &'i [u8],
-    limits: &Limits,
-    words: &'t mut [u32],
-) -> Result<Table<'i, 't>, Refusal> {
-    let count = count(ffi::read_run_within(input, limits.lent(), words))?;
-    Ok(Table::of_read(input, words, count))
-}
-
-/// Reads a stage into words of its own as [`read_stage_vec`] does, within these limits.
-pub fn read_stage_vec_within<'i>(
-    input: &'i [u8],
-    limits: &Limits,
-) -> Result<OwnedTable<'i>, Refusal> {
-    let mut words = vec![0; check_stage_within(input, limits)? * ROW_WORDS];
-    count(ffi::read_stage_within(input, limits.lent(), &mut words))?;
-    Ok(OwnedTable::of_read(input, words))
-}
-
-/// Reads a run into words of its own as [`read_run_vec`] does, within these limits.
-pub fn read_run_vec_within<'i>(
-    input: &'i [u8],
-    limits: &Limits,
-) -> Result<OwnedTable<'i>, Refusal> {
-    let mut words = vec![0; check_run_within(input, limits)? * ROW_WORDS];
-    count(ffi::read_run_within(input, limits.lent(), &mut words))?;
     Ok(OwnedTable::of_read(input, words))
 }
 

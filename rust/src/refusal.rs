@@ -21,7 +21,7 @@ use std::fmt;
 /// ```
 #[derive(Clone, Copy, Debug, PartialEq, Eq, Hash)]
 pub enum Refusal {
-    /// 1: too long: more bytes than the length limit, [`MOST_BYTES`](crate::MOST_BYTES) where none is set.
+    /// 1: too long: more than [`MOST_BYTES`](crate::MOST_BYTES) bytes.
     TooLong,
     /// 2: not UTF-8.
     NotUtf8 {
@@ -90,7 +90,7 @@ pub enum Refusal {
         /// Its start.
         at: usize,
     },
-    /// 14: depth: more levels than the depth limit, [`MOST_DEPTH`](crate::MOST_DEPTH) where none is set.
+    /// 14: depth: more than [`MOST_DEPTH`](crate::MOST_DEPTH) levels.
     TooDeep {
         /// The first byte of the level that is one too many.
         at: usize,
@@ -118,7 +118,7 @@ pub enum Refusal {
 }
 
 impl Refusal {
-    /// The refusal that a check or a read says; `None` for number 0. Neither says one above 18 (proved, `NumbersTo18`).
+    /// The refusal that a call says; `None` for number 0. No call says a number above 18 (proved, `NumbersTo18`).
     pub(crate) fn of(said: Said) -> Option<Refusal> {
         let [start, end, start2, end2] = said.values;
         let (at, span, closing) = (
@@ -316,21 +316,8 @@ mod tests {
             .collect()
     }
 
-    /// The names of a page of definitions that document 02 is quoted above.
-    fn of_document_02(page: &str) -> Vec<&str> {
-        let mut names = Vec::new();
-        let mut quoted = false;
-        for line in page.lines() {
-            if let Some(name) = line.strip_prefix("abbrev pub ") {
-                names.extend(name.split(' ').next().filter(|_| quoted));
-            }
-            quoted = line.starts_with("-- D2: \"") || (quoted && line.starts_with("--"));
-        }
-        names
-    }
-
     /// The definition quotes document 01's words above each number, in order, and document 02's above what is never
-    /// closed and above the refusals of a settings store.
+    /// closed.
     #[test]
     fn words_are_document_01_s_but_for_what_is_never_closed() {
         let page = concat!(
@@ -353,9 +340,8 @@ mod tests {
         let words: Vec<&str> = others.iter().map(|refusal| refusal.words()).collect();
         assert_eq!(words, quotes.collect::<Vec<_>>());
         assert_eq!(words.len(), 15);
-        let names = of_document_02(&text);
-        let so_named = names.iter().filter(|name| name.ends_with("NeverClosed"));
-        assert_eq!(so_named.count(), never_closed.len());
+        let of_document_02 = text.lines().filter(|line| line.starts_with("-- D2: \""));
+        assert_eq!(of_document_02.count(), never_closed.len());
         assert!(never_closed
             .iter()
             .all(|refusal| refusal.words().ends_with(" never closed")));

@@ -1,11 +1,8 @@
 //! The stored lists of items and answers of `crates/batch` and `crates/borders`, through this crate: every answer
-//! is the stored one, and every table that is read has a tree's shape. A settings store among the items sets the
-//! limits of those behind it.
+//! is the stored one, and every table that is read has a tree's shape.
 
 use lorikvar::{
-    check_run, check_run_within, check_stage, check_stage_within, read_run, read_run_within,
-    read_stage, read_stage_within, Limits, Refusal, Settings, SettingsRefusal, Span, Table,
-    MOST_BYTES, NO_PARENT, ROW_WORDS,
+    check_run, check_stage, read_run, read_stage, Refusal, Table, MOST_BYTES, NO_PARENT, ROW_WORDS,
 };
 use std::fs;
 use std::path::PathBuf;
@@ -58,19 +55,17 @@ fn form(answer: &Result<Table<'_, '_>, Refusal>) -> String {
                 .map(|(number, words)| row(number, words));
             format!("ok {}\n", table.len()) + &rows.collect::<String>()
         }
-        Err(refusal) => form_of_refusal(refusal.number(), refusal.places()),
-    }
-}
-
-fn form_of_refusal(number: u32, [a, b]: [Span; 2]) -> String {
-    format!("no {number} {} {} {} {}\n", a.start, a.end, b.start, b.end)
-}
-
-/// The answer to a settings store.
-fn form_of_settings(answer: &Result<Limits, SettingsRefusal>) -> String {
-    match answer {
-        Ok(limits) => format!("set {} {}\n", limits.depth(), limits.bytes()),
-        Err(refusal) => form_of_refusal(refusal.number(), refusal.places()),
+        Err(refusal) => {
+            let [a, b] = refusal.places();
+            format!(
+                "no {} {} {} {} {}\n",
+                refusal.number(),
+                a.start,
+                a.end,
+                b.start,
+                b.end
+            )
+        }
     }
 }
 
@@ -90,55 +85,27 @@ fn answers_are_stored(list: &str) {
         String::from_utf8(stored(list, "stdout")).unwrap(),
     );
     let mut words = vec![0; RECORDS * ROW_WORDS];
-    let mut limits = Limits::default();
     let mut rest = answers.as_str();
     for (place, (letter, item)) in items(&input).into_iter().enumerate() {
-        let text = if letter == b'c' {
-            let answer = Settings::read(item);
-            limits = answer.unwrap_or_default();
-            form_of_settings(&answer)
-        } else {
-            answer_within(place, letter, item, &limits, &mut words)
+        let (check, answer) = match letter {
+            b's' => (check_stage(item), read_stage(item, &mut words)),
+            b'r' => (check_run(item), read_run(item, &mut words)),
+            _ => panic!("item {place} is neither a stage nor a run"),
         };
+        let text = form(&answer);
         rest = rest
             .strip_prefix(text.as_str())
             .unwrap_or_else(|| panic!("item {place}: {text}"));
+        assert_eq!(
+            answer.as_ref().map(Table::len).map_err(|refusal| *refusal),
+            check,
+            "item {place}"
+        );
+        if let Ok(table) = answer {
+            is_a_tree(place, item, table);
+        }
     }
     assert_eq!(rest, "");
-}
-
-/// The answer to a stage or a run within these limits; the check says the same, and so do the functions without
-/// limits where these are document 01's.
-fn answer_within(
-    place: usize,
-    letter: u8,
-    item: &[u8],
-    limits: &Limits,
-    words: &mut [u32],
-) -> String {
-    let check = match letter {
-        b's' => check_stage_within(item, limits),
-        b'r' => check_run_within(item, limits),
-        _ => panic!("item {place} is neither a stage nor a run nor a store"),
-    };
-    let plain = *limits == Limits::default();
-    if plain {
-        let without = [check_run, check_stage][usize::from(letter == b's')];
-        assert_eq!(without(item), check, "item {place}");
-    }
-    let answer = match (letter, plain) {
-        (b's', true) => read_stage(item, words),
-        (b's', false) => read_stage_within(item, limits, words),
-        (_, true) => read_run(item, words),
-        (_, false) => read_run_within(item, limits, words),
-    };
-    let count = answer.as_ref().map(Table::len).map_err(|refusal| *refusal);
-    assert_eq!(count, check, "item {place}");
-    let text = form(&answer);
-    if let Ok(table) = answer {
-        is_a_tree(place, item, table);
-    }
-    text
 }
 
 /// The kept words are a table; each record's bytes and text are its span; a record's children and theirs are

@@ -1,5 +1,5 @@
-//! The names and numbers of refusals and kinds, the limits, and the kinds of settings, are the same in this crate, in
-//! the header and in the definition.
+//! The names and numbers of refusals and kinds, and the limits, are the same in this crate, in the header and in
+//! the definition.
 
 use lorikvar::{Kind, MOST_BYTES, MOST_DEPTH, NO_PARENT, ROW_WORDS};
 use std::collections::BTreeMap;
@@ -67,12 +67,12 @@ fn number_of(name: &str, page: &str) -> String {
         .to_string()
 }
 
-/// The variants `Type::Name { .. } => NUMBER` of a function of the crate, as they are written.
-fn of_variants(source: &str, prefix: &str) -> Names {
-    let text = file(source);
-    let pairs = text
+/// The variants `Name { .. } => NUMBER` of the crate's own function, as they are written.
+fn of_refusals() -> Names {
+    let source = file("rust/src/refusal.rs");
+    let pairs = source
         .lines()
-        .filter_map(|line| line.trim().strip_prefix(prefix)?.split_once(" => "));
+        .filter_map(|line| line.trim().strip_prefix("Refusal::")?.split_once(" => "));
     let named = pairs.filter_map(|(left, number)| {
         let name = left.trim_end_matches(" { .. }");
         Some((number.trim_end_matches(',').parse().ok()?, upper(name)))
@@ -80,18 +80,12 @@ fn of_variants(source: &str, prefix: &str) -> Names {
     named.collect()
 }
 
-/// Those of a reading, and those of a settings store.
 #[test]
 fn refusals_have_the_definition_s_names() {
-    let mut defined = of_definition("crates/jsx/specs/Refusal.antt");
+    let defined = of_definition("crates/jsx/specs/Refusal.antt");
+    assert_eq!(defined.len(), 18);
     assert_eq!(of_header("LORIKVAR_REFUSAL_"), defined);
-    let of_settings = defined.split_off(&31);
-    assert_eq!((defined.len(), of_settings.len()), (18, 4));
-    assert_eq!(of_variants("rust/src/refusal.rs", "Refusal::"), defined);
-    assert_eq!(
-        of_variants("rust/src/settings.rs", "SettingsRefusal::"),
-        of_settings
-    );
+    assert_eq!(of_refusals(), defined);
 }
 
 #[test]
@@ -134,21 +128,6 @@ fn limits_are_the_definition_s() {
     );
 }
 
-/// The kinds that a settings store is written with.
-#[test]
-fn kinds_of_settings_are_the_definition_s() {
-    for (own, defined) in [
-        ("DEPTH", "depthKind"),
-        ("BYTES", "lengthKind"),
-        ("SKIPPED", "skippedFrom"),
-    ] {
-        assert_eq!(
-            number_behind(&format!("const {own}: u8 = "), "rust/src/settings.rs"),
-            number_behind(&format!("{defined} = "), "crates/jsx/specs/Settings.antt")
-        );
-    }
-}
-
 #[test]
 fn limits_are_the_header_s() {
     let header = "include/lorikvar.h";
@@ -165,9 +144,6 @@ fn limits_are_the_header_s() {
         number_behind("#define LORIKVAR_ROW_WORDS ", header)
     );
     assert_eq!(ROW_WORDS, of_header("LORIKVAR_WORD_").len());
-    let limits: Vec<String> = of_header("LORIKVAR_LIMIT_").into_values().collect();
-    assert_eq!(limits, ["DEPTH", "BYTES"]);
-    assert_eq!(2, number_behind("#define LORIKVAR_LIMITS ", header));
     let no_parent = format!("#define LORIKVAR_NO_PARENT 0x{NO_PARENT:X}u");
     assert!(file(header).contains(&no_parent), "{no_parent}");
 }

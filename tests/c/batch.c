@@ -1,8 +1,6 @@
-/* Answers many stages, runs and settings stores from standard input, as the program `batch` does (crates/batch): an
- * item is one byte, `s`, `r` or `c`, its length in 4 bytes, low byte first, and its bytes. A store is answered by the
- * limits that it gives, and what comes behind it is read within those that hold then: at the start, and behind a store
- * that is refused, document 01's. Each input is also checked, and each of its records asked for by its number: exit
- * status 1 where the calls do not agree. */
+/* Answers many stages and runs from standard input, as the program `batch` does (crates/batch): an item is one byte,
+ * `s` or `r`, its length in 4 bytes, low byte first, and its bytes. Each item is also checked, and each of its records
+ * asked for by its number: exit status 1 where the calls do not agree. */
 #include <lorikvar.h>
 
 #include <stdio.h>
@@ -12,9 +10,6 @@
 
 static uint8_t item[LORIKVAR_MOST_BYTES + 1];
 static uint32_t table[RECORDS * LORIKVAR_ROW_WORDS];
-
-/* The limits that hold. */
-static size_t limits[LORIKVAR_LIMITS] = {LORIKVAR_MOST_DEPTH, LORIKVAR_MOST_BYTES};
 
 static void fail(const char *what, size_t number)
 {
@@ -54,52 +49,19 @@ static int agree(uint32_t checked, const size_t *c, uint32_t number, const size_
     return checked == number && c[0] == v[0] && c[1] == v[1] && c[2] == v[2] && c[3] == v[3];
 }
 
-static int are_document_01_s(void)
-{
-    return limits[LORIKVAR_LIMIT_DEPTH] == LORIKVAR_MOST_DEPTH && limits[LORIKVAR_LIMIT_BYTES] == LORIKVAR_MOST_BYTES;
-}
-
-/* The check within the limits; where they are document 01's, the check without limits says the same. */
-static uint32_t check(int is_stage, size_t length, size_t number, size_t *values)
-{
-    size_t plain[LORIKVAR_VALUES];
-    uint32_t said = is_stage ? lorikvar_check_stage_within(item, length, limits, values)
-                             : lorikvar_check_run_within(item, length, limits, values);
-    if (are_document_01_s()) {
-        uint32_t without = is_stage ? lorikvar_check_stage(item, length, plain)
-                                    : lorikvar_check_run(item, length, plain);
-        if (!agree(said, values, without, plain))
-            fail("the checks with limits and without differ", number);
-    }
-    return said;
-}
-
-/* The read without limits where those that hold are document 01's, else within them. */
-static uint32_t read(int is_stage, size_t length, size_t *values)
+static void answer(char reading, size_t length, size_t number)
 {
     size_t words = RECORDS * LORIKVAR_ROW_WORDS;
-    if (are_document_01_s())
-        return is_stage ? lorikvar_read_stage(item, length, table, words, values)
-                        : lorikvar_read_run(item, length, table, words, values);
-    return is_stage ? lorikvar_read_stage_within(item, length, limits, table, words, values)
-                    : lorikvar_read_run_within(item, length, limits, table, words, values);
-}
-
-static void print_refusal(uint32_t said, const size_t *v)
-{
-    printf("no %lu %lu %lu %lu %lu\n", (unsigned long)said, (unsigned long)v[0], (unsigned long)v[1],
-           (unsigned long)v[2], (unsigned long)v[3]);
-}
-
-static void answer(int is_stage, size_t length, size_t number)
-{
     size_t c[LORIKVAR_VALUES], v[LORIKVAR_VALUES], k;
-    uint32_t checked = check(is_stage, length, number, c);
-    uint32_t said = read(is_stage, length, v);
+    int is_stage = reading == 's';
+    uint32_t checked = is_stage ? lorikvar_check_stage(item, length, c) : lorikvar_check_run(item, length, c);
+    uint32_t said = is_stage ? lorikvar_read_stage(item, length, table, words, v)
+                             : lorikvar_read_run(item, length, table, words, v);
     if (!agree(checked, c, said, v))
         fail("the check and the read differ", number);
     if (said != LORIKVAR_ACCEPTED) {
-        print_refusal(said, v);
+        printf("no %lu %lu %lu %lu %lu\n", (unsigned long)said, (unsigned long)v[0], (unsigned long)v[1],
+               (unsigned long)v[2], (unsigned long)v[3]);
         return;
     }
     printf("ok %lu\n", (unsigned long)v[0]);
@@ -108,21 +70,6 @@ static void answer(int is_stage, size_t length, size_t number)
             fail("a record is not found", number);
         print_row(k);
     }
-}
-
-/* The limits of a store hold from here on. */
-static void set(size_t length, size_t number)
-{
-    size_t v[LORIKVAR_VALUES];
-    uint32_t said;
-    if (length > LORIKVAR_MOST_BYTES)
-        fail("a store with no room here", number);
-    said = lorikvar_settings(item, length, limits, v);
-    if (said == LORIKVAR_ACCEPTED)
-        printf("set %lu %lu\n", (unsigned long)limits[LORIKVAR_LIMIT_DEPTH],
-               (unsigned long)limits[LORIKVAR_LIMIT_BYTES]);
-    else
-        print_refusal(said, v);
 }
 
 /* The bytes of an item; of one that is too long, one byte more than is good, and the rest is passed over. */
@@ -144,12 +91,9 @@ int main(void)
     size_t number = 0, got;
     while ((got = fread(head, 1, sizeof head, stdin)) == sizeof head) {
         size_t length = head[1] | (size_t)head[2] << 8 | (size_t)head[3] << 16 | (size_t)head[4] << 24;
-        if (head[0] == 'c')
-            set(take(length, number), number);
-        else if (head[0] == 's' || head[0] == 'r')
-            answer(head[0] == 's', take(length, number), number);
-        else
-            fail("neither a stage nor a run nor a store", number);
+        if (head[0] != 's' && head[0] != 'r')
+            fail("neither a stage nor a run", number);
+        answer((char)head[0], take(length, number), number);
         number++;
     }
     if (got != 0 || number == 0)

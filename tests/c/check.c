@@ -1,10 +1,8 @@
-#define _DEFAULT_SOURCE
 #include "check.h"
 
 #include <stdio.h>
 #include <stdlib.h>
 #include <string.h>
-#include <sys/mman.h>
 
 /* No word of a table and no value has these: an input has at most 1,048,576 bytes. */
 #define WORD_MARK UINT32_C(0xC0FFEE00)
@@ -46,19 +44,6 @@ uint32_t read_by(char reading, const uint8_t *input, size_t length, uint32_t *ta
                           : lorikvar_read_run(input, length, table, words, values);
 }
 
-uint32_t check_within_by(char reading, const uint8_t *input, size_t length, const size_t *limits, size_t *values)
-{
-    return reading == 's' ? lorikvar_check_stage_within(input, length, limits, values)
-                          : lorikvar_check_run_within(input, length, limits, values);
-}
-
-uint32_t read_within_by(char reading, const uint8_t *input, size_t length, const size_t *limits, uint32_t *table,
-                        size_t words, size_t *values)
-{
-    return reading == 's' ? lorikvar_read_stage_within(input, length, limits, table, words, values)
-                          : lorikvar_read_run_within(input, length, limits, table, words, values);
-}
-
 const uint8_t *bytes(const char *text)
 {
     return (const uint8_t *)text;
@@ -87,15 +72,6 @@ void mark_values(size_t *values, size_t count)
         values[k] = VALUE_MARK + k;
 }
 
-int value_marks_stand(const size_t *values, size_t from, size_t count)
-{
-    size_t k;
-    for (k = from; k < count; k++)
-        if (values[k] != VALUE_MARK + k)
-            return 0;
-    return 1;
-}
-
 int values_are(const size_t *values, size_t a, size_t b, size_t c, size_t d)
 {
     return values[0] == a && values[1] == b && values[2] == c && values[3] == d;
@@ -115,18 +91,4 @@ char *nested(const char *part, size_t times, const char *middle, const char *end
     for (k = 0; k < times; k++)
         at += sprintf(at, "%s", end);
     return text;
-}
-
-unsigned char *fenced(void)
-{
-    unsigned char *room = mmap(NULL, 3 * PAGE, PROT_READ | PROT_WRITE, MAP_PRIVATE | MAP_ANONYMOUS, -1, 0);
-    CHECK(room != MAP_FAILED);
-    CHECK(mprotect(room, PAGE, PROT_NONE) == 0);
-    CHECK(mprotect(room + 2 * PAGE, PAGE, PROT_NONE) == 0);
-    return room + PAGE;
-}
-
-void unfence(unsigned char *page)
-{
-    CHECK(munmap(page - PAGE, 3 * PAGE) == 0);
 }

@@ -19,11 +19,6 @@ int verdict(void);
 uint32_t check_by(char reading, const uint8_t *input, size_t length, size_t *values);
 uint32_t read_by(char reading, const uint8_t *input, size_t length, uint32_t *table, size_t words, size_t *values);
 
-/* The same within limits. */
-uint32_t check_within_by(char reading, const uint8_t *input, size_t length, const size_t *limits, size_t *values);
-uint32_t read_within_by(char reading, const uint8_t *input, size_t length, const size_t *limits, uint32_t *table,
-                        size_t words, size_t *values);
-
 /* The bytes of a string. */
 const uint8_t *bytes(const char *text);
 
@@ -31,7 +26,6 @@ const uint8_t *bytes(const char *text);
 void mark_words(uint32_t *table, size_t words);
 int marks_stand(const uint32_t *table, size_t from, size_t words);
 void mark_values(size_t *values, size_t count);
-int value_marks_stand(const size_t *values, size_t from, size_t count);
 
 /* Whether the four values are these. */
 int values_are(const size_t *values, size_t a, size_t b, size_t c, size_t d);
@@ -39,20 +33,11 @@ int values_are(const size_t *values, size_t a, size_t b, size_t c, size_t d);
 /* The text `part` times, then `middle`, then `end` times; in memory that is never freed. */
 char *nested(const char *part, size_t times, const char *middle, const char *end);
 
-/* As large as a page of any machine that runs these tests, so that a whole number of pages is shut. */
-#define PAGE ((size_t)65536)
-
-/* A page that may be used, with one that may not be before it and another behind it; and its end. */
-unsigned char *fenced(void);
-void unfence(unsigned char *page);
-
 /* The tests, each in the file of its name. */
 void test_accepted(void);
 void test_refused(void);
 void test_tables(void);
 void test_parts(void);
-void test_settings(void);
-void test_within(void);
 void test_lent(void);
 void test_threads(void);
 void test_stack(void);

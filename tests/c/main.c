@@ -9,8 +9,6 @@ int main(void)
     test_refused();
     test_tables();
     test_parts();
-    test_settings();
-    test_within();
     test_lent();
     test_threads();
     test_stack();

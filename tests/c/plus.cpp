@@ -10,8 +10,6 @@ int test_from_cplusplus()
     uint32_t table[words] = {};
     size_t values[LORIKVAR_VALUES] = {};
     size_t part[LORIKVAR_PART] = {};
-    const uint8_t store[] = {0x53, 0x54, 1, 1, 1};
-    size_t limits[LORIKVAR_LIMITS] = {};
     int wrong = 0;
     wrong += lorikvar_check_stage(input, 4, values) != LORIKVAR_ACCEPTED || values[0] != 3;
     wrong += lorikvar_check_run(input, 2, values) != LORIKVAR_REFUSAL_END_OF_INPUT || values[0] != 2;
@@ -21,12 +19,5 @@ int test_from_cplusplus()
     wrong += table[2 * LORIKVAR_ROW_WORDS + LORIKVAR_WORD_DEPTH] != 2;
     wrong += !lorikvar_record_bytes(input, 4, table, words, 3, 2, part) || part[0] != 1 || part[1] != 2;
     wrong += lorikvar_span_bytes(input, 4, 3, 2, part) || part[0] != 0 || part[1] != 0;
-    wrong += lorikvar_settings(store, 4, limits, values) != LORIKVAR_REFUSAL_CUT_SHORT;
-    wrong += limits[LORIKVAR_LIMIT_DEPTH] != LORIKVAR_MOST_DEPTH || limits[LORIKVAR_LIMIT_BYTES] != LORIKVAR_MOST_BYTES;
-    wrong += lorikvar_settings(store, 5, limits, values) != LORIKVAR_ACCEPTED || limits[LORIKVAR_LIMIT_DEPTH] != 1;
-    wrong += lorikvar_check_stage_within(input, 4, limits, values) != LORIKVAR_ACCEPTED || values[0] != 3;
-    wrong += lorikvar_check_run_within(input, 2, limits, values) != LORIKVAR_REFUSAL_END_OF_INPUT || values[0] != 2;
-    wrong += lorikvar_read_stage_within(input, 4, limits, table, words, values) != LORIKVAR_ACCEPTED;
-    wrong += lorikvar_read_run_within(input, 4, limits, table, words - 1, values) != LORIKVAR_REFUSAL_TABLE_TOO_SMALL;
     return wrong;
 }

@@ -1,5 +1,5 @@
-/* The stack that a call uses at the greatest depth, or for a long store, measured: a thread runs on a painted stack,
- * and what is left of the paint tells how far down it came. */
+/* The stack that a call uses at the greatest depth, measured: a thread runs on a painted stack, and what is left of
+ * the paint tells how far down it came. */
 #define _DEFAULT_SOURCE
 #include "check.h"
 
@@ -52,28 +52,19 @@ static const struct deep forms[] = {
     {"", "<\xC3\xA9 \xCE\xBB=", 63, "<\xF0\x9E\xA4\x80/>", "/>", ""}
 };
 
-/* Reads the input, where there is one, within limits if some are lent; else the store, where there is one. */
 struct job {
     const char *input;
-    const size_t *limits;
     uint32_t *table;
     size_t words;
-    const uint8_t *store;
-    size_t length;
     uint32_t number;
 };
 
 static void *work(void *given)
 {
     struct job *j = given;
-    size_t limits[LORIKVAR_LIMITS], values[LORIKVAR_VALUES];
-    if (j->input != NULL && j->limits != NULL)
-        j->number =
-            lorikvar_read_run_within(bytes(j->input), strlen(j->input), j->limits, j->table, j->words, values);
-    else if (j->input != NULL)
+    size_t values[LORIKVAR_VALUES];
+    if (j->input != NULL)
         j->number = lorikvar_read_run(bytes(j->input), strlen(j->input), j->table, j->words, values);
-    else if (j->store != NULL)
-        j->number = lorikvar_settings(j->store, j->length, limits, values);
     return NULL;
 }
 
@@ -97,57 +88,29 @@ static size_t used(struct job *j)
     return ROOM - low;
 }
 
-/* The stack that the job's call used, without what the thread itself takes. */
-static size_t used_by_call(struct job *j, size_t own)
+/* The stack that a read of this form used, without what the thread itself takes. */
+static size_t used_by(const struct deep *form, struct job *j, size_t own)
 {
+    char *inner = nested(form->part, form->times, form->middle, form->end);
+    char *input = nested(form->outer, 1, inner, form->shut);
     size_t by_call;
+    j->input = input;
     j->number = LORIKVAR_REFUSAL_TOO_DEEP;
+    about(input);
     by_call = used(j) - own;
     CHECK(j->number == LORIKVAR_ACCEPTED);
     CHECK(by_call < MOST_STACK);
-    return by_call;
-}
-
-/* The most stack that a read of this form used, without limits and with the greatest that can be lent. */
-static size_t used_by(const struct deep *form, struct job *j, size_t own)
-{
-    static const size_t limits[LORIKVAR_LIMITS] = {SIZE_MAX, SIZE_MAX};
-    char *inner = nested(form->part, form->times, form->middle, form->end);
-    char *input = nested(form->outer, 1, inner, form->shut);
-    size_t plain, within;
-    about(input);
-    j->input = input;
-    j->limits = NULL;
-    plain = used_by_call(j, own);
-    j->limits = limits;
-    within = used_by_call(j, own);
     about("stack");
     free(inner);
     free(input);
-    return within > plain ? within : plain;
-}
-
-/* A store of as many records as an input may have bytes. */
-static void used_by_store(size_t own)
-{
-    static const uint8_t record[] = {0x53, 0x54, 1, 1, 7};
-    struct job j = {NULL, NULL, NULL, 0, NULL, (size_t)LORIKVAR_MOST_BYTES * sizeof record, 0};
-    uint8_t *store = malloc(j.length);
-    size_t k;
-    about("stack of a long store");
-    CHECK(store != NULL);
-    for (k = 0; k < j.length; k += sizeof record)
-        memcpy(store + k, record, sizeof record);
-    j.store = store;
-    printf("stack of a long store: %lu bytes\n", (unsigned long)used_by_call(&j, own));
-    free(store);
+    return by_call;
 }
 
 void test_stack(void)
 {
     size_t words = 1000 * LORIKVAR_ROW_WORDS;
     uint32_t *table = malloc(words * sizeof *table);
-    struct job j = {NULL, NULL, NULL, 0, NULL, 0, 0};
+    struct job j = {NULL, NULL, 0, 0};
     size_t own, most = 0, k;
     about("stack");
     CHECK(table != NULL);
@@ -159,6 +122,5 @@ void test_stack(void)
         most = by_call > most ? by_call : most;
     }
     printf("most stack of a call: %lu bytes\n", (unsigned long)most);
-    used_by_store(own);
     free(table);
 }

@@ -1,5 +1,4 @@
-/* Several threads call at once, on the same inputs and stores and on one table that is only read: each gets what one
- * alone gets. */
+/* Several threads call at once, on the same inputs and on one table that is only read: each gets what one alone gets. */
 #define _DEFAULT_SOURCE
 #include "check.h"
 
@@ -15,22 +14,12 @@ static const char *const inputs[INPUTS] = {
     "<v>hi</v>", "<a b={c ? <d/> : e}>{...f}</a>", "<v></w>", "<x.y z:w='1'>{}</x.y>"
 };
 
-/* The second gives depth 2, and the last one is cut short. */
-static const uint8_t stores[INPUTS][5] = {
-    {0x53, 0x54, 0x80, 1, 9}, {0x53, 0x54, 1, 1, 2}, {0x53, 0x54, 1, 1, 3}, {0x53, 0x54, 1, 2, 4}
-};
-
 struct answer {
     uint32_t number;
     size_t values[LORIKVAR_VALUES];
     uint32_t table[WORDS];
     bool found;
     size_t part[LORIKVAR_PART];
-    uint32_t of_store;
-    size_t limits[LORIKVAR_LIMITS];
-    uint32_t number_within;
-    size_t values_within[LORIKVAR_VALUES];
-    uint32_t table_within[WORDS];
 };
 
 /* What one thread gets, before there are others. */
@@ -41,18 +30,13 @@ struct work {
     size_t differences;
 };
 
-/* The read of an input, a record of the first input's table, which all threads look at, and the read within the limits
- * of a store. */
+/* The read of an input, and a record of the first input's table, which all threads look at. */
 static void ask(size_t k, struct answer *a)
 {
-    const uint8_t *first = bytes(inputs[0]), *input = bytes(inputs[k]);
-    size_t length = strlen(inputs[k]);
+    const uint8_t *input = bytes(inputs[0]);
     memset(a, 0, sizeof *a);
-    a->number = lorikvar_read_stage(input, length, a->table, WORDS, a->values);
-    a->found = lorikvar_record_bytes(first, strlen(inputs[0]), alone[0].table, WORDS, 6, k, a->part);
-    a->of_store = lorikvar_settings(stores[k], sizeof stores[k], a->limits, a->values_within);
-    a->number_within =
-        lorikvar_read_stage_within(input, length, a->limits, a->table_within, WORDS, a->values_within);
+    a->number = lorikvar_read_stage(bytes(inputs[k]), strlen(inputs[k]), a->table, WORDS, a->values);
+    a->found = lorikvar_record_bytes(input, strlen(inputs[0]), alone[0].table, WORDS, 6, k, a->part);
 }
 
 static void *turns(void *given)
@@ -81,8 +65,6 @@ void test_threads(void)
         ask(k, &first);
         memcpy(&alone[k], &first, sizeof first);
         CHECK(first.number == (k == 2 ? LORIKVAR_REFUSAL_NAMES_DIFFER : LORIKVAR_ACCEPTED) && first.found);
-        CHECK(first.of_store == (k == 3 ? LORIKVAR_REFUSAL_CUT_SHORT : LORIKVAR_ACCEPTED));
-        CHECK(first.number_within == (k == 1 ? (uint32_t)LORIKVAR_REFUSAL_TOO_DEEP : first.number));
     }
     for (k = 0; k < THREADS; k++) {
         works[k].first = k;

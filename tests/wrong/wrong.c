@@ -7,23 +7,12 @@
 #define SHORT 16
 #define ASCII 128
 
-/* The least kind that is skipped. */
-#define SKIPPED 128
-
 uint32_t right_check_stage(const uint8_t *input, size_t length, size_t values[LORIKVAR_VALUES]);
 uint32_t right_check_run(const uint8_t *input, size_t length, size_t values[LORIKVAR_VALUES]);
 uint32_t right_read_stage(const uint8_t *input, size_t length, uint32_t *table, size_t words,
                           size_t values[LORIKVAR_VALUES]);
 uint32_t right_read_run(const uint8_t *input, size_t length, uint32_t *table, size_t words,
                         size_t values[LORIKVAR_VALUES]);
-uint32_t right_check_stage_within(const uint8_t *input, size_t length, const size_t limits[LORIKVAR_LIMITS],
-                                  size_t values[LORIKVAR_VALUES]);
-uint32_t right_check_run_within(const uint8_t *input, size_t length, const size_t limits[LORIKVAR_LIMITS],
-                                size_t values[LORIKVAR_VALUES]);
-uint32_t right_read_stage_within(const uint8_t *input, size_t length, const size_t limits[LORIKVAR_LIMITS],
-                                 uint32_t *table, size_t words, size_t values[LORIKVAR_VALUES]);
-uint32_t right_read_run_within(const uint8_t *input, size_t length, const size_t limits[LORIKVAR_LIMITS],
-                               uint32_t *table, size_t words, size_t values[LORIKVAR_VALUES]);
 bool right_span_bytes(const uint8_t *input, size_t length, size_t start, size_t end, size_t part[LORIKVAR_PART]);
 bool right_record_bytes(const uint8_t *input, size_t length, const uint32_t *table, size_t words, size_t count,
                         size_t number, size_t part[LORIKVAR_PART]);
@@ -106,13 +95,8 @@ uint32_t lorikvar_check_stage(const uint8_t *input, size_t length, size_t values
     return said(right_check_stage(input, length, values), input, length, values);
 }
 
-/* The limits that were lent last. */
-static size_t kept[LORIKVAR_LIMITS] = {LORIKVAR_MOST_DEPTH, LORIKVAR_MOST_BYTES};
-
 uint32_t lorikvar_check_run(const uint8_t *input, size_t length, size_t values[LORIKVAR_VALUES])
 {
-    if (WRONG == 71) /* limits stay for the calls that are lent none */
-        return right_check_run_within(input, length, kept, values);
     if (WRONG == 19 && length == 0) /* the empty run is refused */
         return right_check_stage(input, length, values);
     return said(right_check_run(input, length, values), input, length, values);
@@ -199,229 +183,4 @@ bool lorikvar_record_bytes(const uint8_t *input, size_t length, const uint32_t *
     if (WRONG == 35) /* the record before */
         number = number > 0 ? number - 1 : 0;
     return right_record_bytes(input, length, table, words, count, number, part);
-}
-
-/* A reader of settings stores of its own. Of a record at the front of `left` bytes, whether its mark is wrong. */
-static bool wrong_mark(const uint8_t *record, size_t left)
-{
-    if (WRONG == 36 && left == 1) /* a byte of a mark that is missing is a wrong one */
-        return true;
-    if (WRONG == 37) /* the second byte of a mark is not looked at */
-        return record[0] != 0x53;
-    return record[0] != 0x53 || (left > 1 && record[1] != 0x54);
-}
-
-static bool is_known(unsigned kind)
-{
-    return kind == 1 || kind == 2;
-}
-
-static bool is_unknown(unsigned kind)
-{
-    if (WRONG == 38 && kind == 127) /* kind 127 is skipped */
-        return false;
-    if (WRONG == 39 && kind == 128) /* kind 128 is not skipped */
-        return true;
-    if (WRONG == 40 && kind == 0) /* kind 0 is skipped */
-        return false;
-    return !is_known(kind) && kind < SKIPPED;
-}
-
-/* The number that a whole record of a known kind says. */
-static size_t number_of(const uint8_t *record)
-{
-    const uint8_t *b = record + 4;
-    if (record[2] == 1)
-        return b[0];
-    if (WRONG == 41) /* high byte first */
-        return (size_t)b[0] << 24 | (size_t)b[1] << 16 | (size_t)b[2] << 8 | b[3];
-    if (WRONG == 42) /* the highest byte is lost */
-        return (size_t)b[2] << 16 | (size_t)b[1] << 8 | b[0];
-    return (size_t)b[3] << 24 | (size_t)b[2] << 16 | (size_t)b[1] << 8 | b[0];
-}
-
-static bool bad_length(const uint8_t *record)
-{
-    unsigned length = record[2] == 1 ? 1 : 4;
-    if (WRONG == 43) /* bytes behind the number are passed over */
-        return record[3] < length;
-    return record[3] != length;
-}
-
-static bool bad_number(const uint8_t *record)
-{
-    size_t n = number_of(record);
-    if (record[2] == 1) {
-        if (WRONG == 44 && n == LORIKVAR_MOST_DEPTH + 1) /* depth 65 is good */
-            return false;
-        if (WRONG == 45 && n == 0) /* depth 0 is good */
-            return false;
-        return n == 0 || n > LORIKVAR_MOST_DEPTH;
-    }
-    if (WRONG == 46 && n == LORIKVAR_MOST_BYTES + 1) /* one byte more than document 01's is good */
-        return false;
-    if (WRONG == 47 && n == 0) /* length 0 is bad */
-        return true;
-    return n > LORIKVAR_MOST_BYTES;
-}
-
-/* What is wrong with a record, or 0. */
-static uint32_t judge(const uint8_t *record, size_t left)
-{
-    if (wrong_mark(record, left))
-        return LORIKVAR_REFUSAL_WRONG_MARK;
-    if (WRONG == 48 && left >= 4 && is_known(record[2]) && bad_length(record)) /* 34 before 32 */
-        return LORIKVAR_REFUSAL_BAD_SETTING;
-    if (WRONG == 49 && left >= 3 && is_unknown(record[2])) /* 33 before 32 */
-        return LORIKVAR_REFUSAL_UNKNOWN_KIND;
-    if (left < 4 || left - 4 < record[3])
-        return LORIKVAR_REFUSAL_CUT_SHORT;
-    if (is_unknown(record[2]))
-        return LORIKVAR_REFUSAL_UNKNOWN_KIND;
-    if (is_known(record[2]) && (bad_length(record) || bad_number(record)))
-        return LORIKVAR_REFUSAL_BAD_SETTING;
-    return LORIKVAR_ACCEPTED;
-}
-
-/* The limit of a record holds. */
-static void hold(const uint8_t *record, size_t held[LORIKVAR_LIMITS], bool seen[LORIKVAR_LIMITS])
-{
-    size_t which = (size_t)record[2] - 1;
-    if (WRONG == 50 && seen[which]) /* the first of a kind counts */
-        return;
-    seen[which] = true;
-    held[WRONG == 51 ? 1 - which : which] = number_of(record); /* depth and bytes exchanged */
-}
-
-static uint32_t refuse(uint32_t number, const uint8_t *record, size_t at, size_t *held, size_t *limits, size_t *values)
-{
-    bool is_kind = number == LORIKVAR_REFUSAL_UNKNOWN_KIND;
-    if (WRONG == 52 && number == LORIKVAR_REFUSAL_BAD_SETTING) /* 34 at the number, not at the record */
-        at += 4;
-    if (WRONG == 53) /* 33 at the record's offset, as the others */
-        is_kind = false;
-    values[0] = is_kind ? record[2] : at;
-    values[1] = is_kind && WRONG != 54 ? 0 : values[0]; /* the kind twice */
-    values[2] = values[3] = 0;
-    if (WRONG == 55) /* limits not written at a refusal */
-        return number;
-    if (WRONG != 56) /* the limits of the records before hold */
-        held[0] = LORIKVAR_MOST_DEPTH, held[1] = LORIKVAR_MOST_BYTES;
-    memcpy(limits, held, LORIKVAR_LIMITS * sizeof *limits);
-    return number;
-}
-
-/* The bytes from a record to the next one. */
-static size_t length_of(const uint8_t *record)
-{
-    if (WRONG == 57 && record[2] >= SKIPPED) /* the bytes of a skipped record are read as records */
-        return 4;
-    if (WRONG == 58 && record[3] >= 128) /* a length byte with a sign */
-        return 4;
-    return 4 + (size_t)record[3];
-}
-
-uint32_t lorikvar_settings(const uint8_t *store, size_t length, size_t limits[LORIKVAR_LIMITS],
-                           size_t values[LORIKVAR_VALUES])
-{
-    size_t held[LORIKVAR_LIMITS] = {LORIKVAR_MOST_DEPTH, LORIKVAR_MOST_BYTES}, at = 0;
-    bool seen[LORIKVAR_LIMITS] = {false, false};
-    if (WRONG == 59) /* a byte behind the store is looked at */
-        look(store, length);
-    if (WRONG == 60 && length > LORIKVAR_MOST_BYTES) /* a store is as long as an input, at most */
-        return refuse(LORIKVAR_REFUSAL_TOO_LONG, store, 0, held, limits, values);
-    while (at < length) {
-        const uint8_t *record = store + at;
-        uint32_t number = judge(record, length - at);
-        if (number != LORIKVAR_ACCEPTED)
-            return refuse(number, record, at, held, limits, values);
-        if (is_known(record[2]))
-            hold(record, held, seen);
-        at += length_of(record);
-    }
-    memcpy(limits, held, sizeof held);
-    if (WRONG == 61) /* a limit too many is written */
-        limits[LORIKVAR_LIMITS] = 0;
-    if (WRONG != 62) /* values are not written where the store is good */
-        memset(values, 0, LORIKVAR_VALUES * sizeof *values);
-    return LORIKVAR_ACCEPTED;
-}
-
-/* The limits that are read with, and a fault in them. */
-static void take(const size_t *limits, size_t taken[LORIKVAR_LIMITS])
-{
-    memcpy(taken, limits, LORIKVAR_LIMITS * sizeof *taken);
-    memcpy(kept, limits, sizeof kept);
-    if (WRONG == 63) /* depth and bytes exchanged */
-        taken[0] = limits[1], taken[1] = limits[0];
-    if (WRONG == 64 && taken[0] == 0) /* depth 0 is no limit */
-        taken[0] = LORIKVAR_MOST_DEPTH;
-    if (WRONG == 65 && taken[1] == 0) /* length 0 is no limit */
-        taken[1] = LORIKVAR_MOST_BYTES;
-    if (WRONG == 66) /* the high bytes of the depth are lost */
-        taken[0] = (uint8_t)taken[0];
-    if (WRONG == 67) /* the high words of the length are lost */
-        taken[1] = (uint32_t)taken[1];
-    if (WRONG == 68 && taken[0] < LORIKVAR_MOST_DEPTH) /* one level more is let in */
-        taken[0]++;
-    if (WRONG == 69 && taken[1] < LORIKVAR_MOST_BYTES) /* one byte more is let in */
-        taken[1]++;
-    if (WRONG == 70) /* the limits are not looked at */
-        taken[0] = taken[1] = SIZE_MAX;
-}
-
-/* What is said within limits, and a fault in it. */
-static uint32_t said_within(uint32_t number, const size_t *limits, size_t *values)
-{
-    bool deep = number == LORIKVAR_REFUSAL_TOO_DEEP && limits[LORIKVAR_LIMIT_DEPTH] > LORIKVAR_MOST_DEPTH;
-    bool too_long = number == LORIKVAR_REFUSAL_TOO_LONG && limits[LORIKVAR_LIMIT_BYTES] > LORIKVAR_MOST_BYTES;
-    if ((WRONG == 72 && deep) || (WRONG == 73 && too_long)) { /* a limit above document 01's is taken as it is */
-        memset(values, 0, LORIKVAR_VALUES * sizeof *values);
-        return LORIKVAR_ACCEPTED;
-    }
-    if (WRONG == 74) /* the limits are written */
-        ((size_t *)limits)[LORIKVAR_LIMIT_BYTES] = LORIKVAR_MOST_BYTES;
-    return number;
-}
-
-uint32_t lorikvar_check_stage_within(const uint8_t *input, size_t length, const size_t limits[LORIKVAR_LIMITS],
-                                     size_t values[LORIKVAR_VALUES])
-{
-    size_t taken[LORIKVAR_LIMITS];
-    take(limits, taken);
-    if (WRONG == 75 && length > 0) /* a byte is looked at before the length is */
-        look(input, 0);
-    return said_within(right_check_stage_within(input, length, taken, values), limits, values);
-}
-
-uint32_t lorikvar_check_run_within(const uint8_t *input, size_t length, const size_t limits[LORIKVAR_LIMITS],
-                                   size_t values[LORIKVAR_VALUES])
-{
-    size_t taken[LORIKVAR_LIMITS];
-    take(limits, taken);
-    if (WRONG == 76) /* a stage's check for a run's */
-        return right_check_stage_within(input, length, taken, values);
-    return said_within(right_check_run_within(input, length, taken, values), limits, values);
-}
-
-uint32_t lorikvar_read_stage_within(const uint8_t *input, size_t length, const size_t limits[LORIKVAR_LIMITS],
-                                    uint32_t *table, size_t words, size_t values[LORIKVAR_VALUES])
-{
-    size_t taken[LORIKVAR_LIMITS];
-    uint32_t number;
-    take(limits, taken);
-    number = right_read_stage_within(input, length, taken, table, words, values);
-    if (WRONG == 77 && number != 0 && words > 0) /* a refusal writes a word */
-        table[0] = 1;
-    return said_within(number, limits, values);
-}
-
-uint32_t lorikvar_read_run_within(const uint8_t *input, size_t length, const size_t limits[LORIKVAR_LIMITS],
-                                  uint32_t *table, size_t words, size_t values[LORIKVAR_VALUES])
-{
-    volatile uint8_t more[WRONG == 78 ? 120000 : 1]; /* more stack than is said */
-    size_t taken[LORIKVAR_LIMITS];
-    more[0] = 0;
-    take(limits, taken);
-    return said_within(right_read_run_within(input, length, taken, table, words, values), limits, values) + more[0];
 }

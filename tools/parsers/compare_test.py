@@ -98,10 +98,6 @@ class Items(unittest.TestCase):
         some = [("s", b"<a/>"), ("r", b""), ("r", "\u2028".encode())]
         self.assertEqual(list(compare.items_of(compare.batch_of(some))), some)
 
-    def test_stores_are_left_out(self):
-        some = [("c", b"ST\x01\x01\x01"), ("s", b"<a/>"), ("c", b""), ("r", b"c")]
-        self.assertEqual(compare.readings_of(compare.batch_of(some)), [("s", b"<a/>"), ("r", b"c")])
-
     def test_blanks_beyond_ascii_stand_at_every_hole(self):
         self.assertEqual(len(set(items.NEW_BLANKS)), 19)
         filled = set(items.filled())

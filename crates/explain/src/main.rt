@@ -2,7 +2,9 @@
 // records. Up to 1,048,576 bytes and 131,072 records.
 #![tactic(auto)]
 
-use libc::STDIN_FILENO;
+// Standard input, as the system numbers it.
+const STDIN_FILENO: i32 = 0;
+
 
 fn main() {
     let mut input = room::input_room();

@@ -2,8 +2,10 @@
 // beyond ASCII, long lines, trees.
 #![tactic(auto)]
 
-use libc::STDOUT_FILENO;
 use table::ROW_WORDS;
+
+// Standard output.
+const STDOUT_FILENO: i32 = 1;
 
 fn show(s: &[u8]) {
     let mut t = [0u32; ROW_WORDS * 128];

@@ -1,5 +1,5 @@
 -- What the depth of a record counts, computed: an input for 5.1, 5.2 and 5.6 of docs/DECISIONS.md.
-use Prim.Native.Nat.{ℕ, ◌*◌}
+use Prim.Native.Nat.{◌*◌}
 use Prim.Native.String.{String}
 use mathlib.Core.Path.{◌≡◌, refl}
 use mathlib.Core.List.{List, [], ◌∷◌}

@@ -5,7 +5,9 @@
 ghost use Rattle.std.specs.Prelude.{◌+◌, ◌≤◌, ◌<◌, ◌^◌, length};
 
 use lex::bytes::{CR, LF, TAB};
-use libc::STDOUT_FILENO;
+
+// Standard output.
+const STDOUT_FILENO: i32 = 1;
 
 // The bytes of a line in front of a place that are shown at most.
 const BEFORE: usize = 72;

@@ -2,8 +2,13 @@
 // for the bytes that it has read is `print::program_text`; no contract can say which bytes are read and written.
 #![tactic(auto)]
 
-use libc::{STDIN_FILENO, STDOUT_FILENO};
 use print::PROGRAM_TEXT;
+
+// Standard input, as the system numbers it.
+const STDIN_FILENO: i32 = 0;
+
+// Standard output.
+const STDOUT_FILENO: i32 = 1;
 
 fn main() {
     let mut input = [0u8; 65_537]; // one byte more than is allowed, so that a longer input is told

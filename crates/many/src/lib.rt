@@ -12,9 +12,14 @@ ghost use Rattle.print.specs.Answer.{text_room, most, Small};
 ghost use Rattle.many.specs.Item.{reading, length_of};
 
 use lex::refusal::TOO_LONG;
-use libc::{STDIN_FILENO, STDOUT_FILENO};
 use put::{OK_BYTES, ROW_BYTES};
 use stage::Reply;
+
+// Standard input, as the system numbers it.
+const STDIN_FILENO: i32 = 0;
+
+// Standard output.
+const STDOUT_FILENO: i32 = 1;
 
 const STAGE: u8 = b's';
 

@@ -14,9 +14,8 @@ use Rattle.rules.specs.Parse.{pick}
 use Rattle.rules.specs.Record.{row_words, row, count, records}
 use Rattle.rules.proofs.Forests.{length_records, count_behind}
 use Rattle.rules.proofs.Formed.{Formed}
-use Rattle.rules.proofs.Spots.{Spot, arrived, under, past, skip, fill, bytes_before, fill_same}
-use Rattle.rules.proofs.Edited.{records_before, holder, Followed, count_fits}
-use Rattle.rules.proofs.Held.{inside_of, place_of, depth_of, ContentOf, content_of_lem}
+use Rattle.rules.proofs.Edited.{count_fits}
+use Rattle.rules.proofs.Held.{inside_of, place_of, depth_of, content_of_lem}
 
 -- The label of the node with the number j, in a forest whose first record is n.
 unfoldable pub label_of : (n j : ℕ) → Forest → Label

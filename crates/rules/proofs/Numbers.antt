@@ -1,14 +1,14 @@
 -- Which numbers a rule refuses by: those that stand in it, that of the end of input, and 0, for a loop that is stuck.
-use mathlib.Core.Path.{◌≡◌, refl}
+use mathlib.Core.Path.{◌≡◌}
 use mathlib.Core.Bool.{Bool, true, false}
 use mathlib.Core.List.{List}
-use Prim.Native.Nat.{ℕ, zero, suc, ◌+◌}
+use Prim.Native.Nat.{ℕ, zero, suc}
 use lib.ListN.{length}
 use lib.Dec.{ltb}
 use Rattle.rules.specs.Forest.{Forest, group, content, ◌⋈◌}
 use Rattle.rules.specs.Rule.{Verdict, fine, differ, Rule, done, stop, step, refuse, when, look, after, seq}
 use Rattle.rules.specs.Rule.{many, wrap, said, marked, paired}
-use Rattle.rules.specs.Parse.{Answer, got, trouble, pick, behind, byte_at, stands, end_of_input, stuck, judged}
+use Rattle.rules.specs.Parse.{Answer, got, pick, byte_at, stands, end_of_input, stuck, judged}
 use Rattle.rules.specs.Parse.{repeat, parse, parse_all}
 use Rattle.rules.proofs.Run.{both, never}
 use Rattle.rules.proofs.Stuck.{Refuses, refuses_if, refuses_then, refuses_behind, refuses_refusal}

@@ -1,6 +1,6 @@
 -- A loop of a rule, turn by turn: `many t` from a place on is one turn, and `many t` from where that turn ended.
 -- No fuel is left in what is said.
-use mathlib.Core.Path.{◌≡◌, refl, sym, ap, subst, ◌∙◌}
+use mathlib.Core.Path.{◌≡◌, refl, sym, ap, ◌∙◌}
 use mathlib.Core.Bool.{Bool, true, false}
 use mathlib.Core.List.{List}
 use Prim.Native.Nat.{ℕ, zero, suc, ◌+◌, ◌≤◌, ◌<◌}

@@ -3,7 +3,6 @@ use mathlib.Core.Path.{◌≡◌, sym, ap, ◌∙◌}
 use Rattle.jsx.specs.Reading as R
 use Rattle.jsx.specs.Settings as Store
 use Rattle.jsx.proofs.Settings.{set_unset, set_same}
-use Rattle.settings.specs.declared.Limits.{Limits}
 use Rattle.settings.specs.declared.Settled.{Settled}
 use Rattle.settings.specs.declared.Settled.TheVariants.{Set, Refused}
 use Rattle.settings.specs.Contract.{settled_of, OneAnswerOfSettings}

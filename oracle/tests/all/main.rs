@@ -8,5 +8,4 @@ mod named;
 mod names;
 mod never_closed;
 mod program;
-mod settings;
 mod tables;

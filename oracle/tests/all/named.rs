@@ -1,7 +1,7 @@
 //! Every named input has the answer that was derived by hand.
 
-use oracle::forms::{program_form, settings_form};
-use oracle::{named, read, settings, Limits};
+use oracle::forms::program_form;
+use oracle::{named, read, Limits};
 
 #[test]
 fn named_inputs_have_their_answers() {
@@ -15,21 +15,4 @@ fn named_inputs_have_their_answers() {
         }
     }
     assert!(wrong.is_empty(), "{wrong:#?}");
-}
-
-#[test]
-fn named_stores_have_their_answers() {
-    for (source, store, expected) in named::STORES {
-        let answer = settings_form(&settings(store));
-        assert_eq!(answer, format!("{expected}\n"), "{source} {store:?}");
-    }
-    for (source, store, reading, input, expected) in named::BEHIND_STORES {
-        let answer = program_form(&read(input, *reading, settings(store).limits()));
-        let first_line = answer.lines().next();
-        assert_eq!(
-            first_line,
-            Some(*expected),
-            "{source} {store:?} {reading:?} {input:?}"
-        );
-    }
 }

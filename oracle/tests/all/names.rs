@@ -221,7 +221,7 @@ fn depth_is_tested_at_a_first_character() {
 /// All of the lab's cases of request 7, by its own answers.
 #[test]
 fn the_lab_s_cases() {
-    let held = cases::hold(corpus::LAB_NAMES);
+    let held = cases::hold(corpus::LAB_CASES);
     assert_eq!(held.cases, 729);
     assert!(held.differences.is_empty(), "{:#?}", held.differences);
 }

@@ -1,21 +1,10 @@
 //! The batch, the program of document 01, and files of cases.
 
-use oracle::batch::Item;
-use oracle::{batch, cases, corpus, Limits, Reading};
+use oracle::{batch, cases};
 
 fn item(letter: u8, bytes: &[u8]) -> Vec<u8> {
     let length = (bytes.len() as u32).to_le_bytes();
     [&[letter], &length[..], bytes].concat()
-}
-
-/// The first so many of the random readings that stand behind no store.
-fn random_readings(count: usize) -> impl Iterator<Item = (Reading, Vec<u8>)> {
-    let behind_a_store = |seed: u64| seed > 0 && matches!(corpus::random(seed - 1), Item::Set(_));
-    let reading = move |seed: u64| match corpus::random(seed) {
-        Item::Read(reading, bytes) if !behind_a_store(seed) => Some((reading, bytes)),
-        _ => None,
-    };
-    (0..).filter_map(reading).take(count)
 }
 
 fn answers(input: &[u8]) -> String {
@@ -48,10 +37,6 @@ fn a_bad_item_ends_the_batch() {
         b"s\x01\0\0",
         b"s\x02\0\0\0<",
         b"r\xFF\xFF\xFF\xFF<",
-        b"c",
-        b"C\0\0\0\0",
-        b"c\x01\0\0",
-        b"c\x02\0\0\0S",
     ] {
         assert_eq!(answers(bad), "bad item 0\n");
         let input = [&good[..], bad].concat();
@@ -66,68 +51,6 @@ fn an_item_that_is_too_long_is_refused_and_passed_over() {
     let long = vec![b'<'; 1_048_577];
     let input = [item(b'r', &long), item(b'r', &long[1..]), item(b'r', b"")].concat();
     assert_eq!(answers(&input), "no 1 0 0 0 0\nno 3 1 1 0 0\nok 0\n");
-}
-
-const DEPTH_2: &[u8] = b"ST\x01\x01\x02";
-const LENGTH_9: &[u8] = b"ST\x02\x04\x09\0\0\0";
-
-/// Request 14: the limits of the last store hold, and document 01's at the start and behind a refused store.
-#[test]
-fn a_store_gives_the_limits_of_the_items_behind_it() {
-    let deep = item(b's', b"<><><");
-    let long = item(b'r', b"0123456789");
-    let input = [
-        deep.clone(),
-        item(b'c', DEPTH_2),
-        item(b's', b"<><><>"),
-        item(b'r', b"{(<a"),
-        item(b'c', LENGTH_9),
-        item(b's', b"<><><>"),
-        long.clone(),
-        item(b'r', b"<\xFF\xFF\xFF\xFF\xFF\xFF\xFF\xFF<"),
-        item(b'r', b"<\xFF\xFF\xFF\xFF\xFF\xFF\xFF\xFF"),
-        item(b'c', b"ST\x01\x01\x02ST\x05\0"),
-        item(b's', b"<><><>"),
-        item(b'c', b""),
-        long,
-    ];
-    let expected = "no 4 5 5 0 0\nset 2 1048576\nno 14 4 4 0 0\nno 14 2 2 0 0\nset 64 9\nno 4 6 6 0 0\n\
-                    no 1 0 0 0 0\nno 1 0 0 0 0\nno 2 1 1 0 0\nno 33 5 0 0 0\nno 4 6 6 0 0\nset 64 1048576\n\
-                    ok 1\n0 14 0 10 - 1 0 0\n";
-    assert_eq!(answers(&input.concat()), expected);
-}
-
-/// A store has a batch's room of bytes, whatever limit holds; no refusal stands for one that is longer.
-#[test]
-fn a_store_of_more_than_1048576_bytes_is_a_bad_item() {
-    let skipped = [&b"ST\x80\xFF"[..], &[0; 255]].concat();
-    let rest = [&b"ST\x80\x8C"[..], &[0; 140]].concat();
-    let mut store = [skipped.repeat(4_048), rest].concat();
-    assert_eq!(store.len(), 1_048_576);
-    let input = [
-        item(b'c', LENGTH_9),
-        item(b'c', &store),
-        item(b'r', b"0123456789"),
-    ];
-    let line = "set 64 9\nset 64 1048576\nok 1\n0 14 0 10 - 1 0 0\n";
-    assert_eq!(answers(&input.concat()), line);
-    store.push(b'S');
-    let input = [item(b'c', LENGTH_9), item(b'c', &store), item(b'r', b"")];
-    assert_eq!(answers(&input.concat()), "set 64 9\nbad item 1\n");
-}
-
-/// An item that no room holds is refused by 1 with every limit.
-#[test]
-fn an_item_that_is_too_long_keeps_the_limits() {
-    let long = vec![b'<'; 1_048_577];
-    let input = [
-        item(b'c', LENGTH_9),
-        item(b'r', &long),
-        item(b'r', &long[1..]),
-        item(b'r', b"0123456789"),
-    ];
-    let refused = "no 1 0 0 0 0\n".repeat(3);
-    assert_eq!(answers(&input.concat()), format!("set 64 9\n{refused}"));
 }
 
 #[test]
@@ -180,22 +103,6 @@ fn cases_are_held_against_the_answers() {
 }
 
 #[test]
-fn cases_with_stores_are_held_against_the_answers() {
-    let good = "T named - 0:0,0:0,0:64:1048576\nT named 5354010105 0:0,0:0,0:5:1048576\n\
-                T named 535401010553540300 33:3,0:0,0:64:1048576\n\
-                s named 5354010101/3c3e3c3e 14:2,2:0,0:0:\nr named 5354020400000000/- 0:0,0:0,0:0:\n\
-                r named -/78 0:0,0:0,0:1:14,0,1,-,1,0,0\nS named 3c3e3c3e 4:4,4:0,0:0:\n";
-    let held = cases::hold(good);
-    assert_eq!((held.cases, held.differences), (7, Vec::new()));
-    let wrong = "T named - 0:0,0:0,0:64:1048575\nT named 535401010553540300 33:3,0:0,0:5:1048576\n\
-                 s named 5354010102/3c3e3c3e 14:2,2:0,0:0:\ns named 3c3e3c3e 4:4,4:0,0:0:\n\
-                 T named -/- 0:0,0:0,0:64:1048576\nS named -/- 4:0,0:0,0:0:\n";
-    let held = cases::hold(wrong);
-    assert_eq!((held.cases, held.differences.len()), (6, 6));
-    assert!(held.differences[2].starts_with("line 3: Stage behind 5354010102 named \"<><>\""));
-}
-
-#[test]
 fn another_programs_answers_are_held_against_these() {
     let items = [item(b's', b"<a/>"), item(b'r', b"x"), item(b's', b"<")].concat();
     let whole = answers(&items);
@@ -211,34 +118,14 @@ fn another_programs_answers_are_held_against_these() {
 }
 
 #[test]
-fn another_programs_limits_are_held_against_these() {
-    let items = [item(b'c', DEPTH_2), item(b's', b"<><><>")].concat();
-    let whole = answers(&items);
-    assert_eq!(whole, "set 2 1048576\nno 14 4 4 0 0\n");
-    assert!(batch::against(&items[..], whole.as_bytes())
-        .unwrap()
-        .first
-        .is_none());
-    for (other, agree) in [("set 2", "set 3"), ("no 14 4 4", "no 4 6 6")]
-        .map(|(here, there)| whole.replace(here, there))
-        .iter()
-        .zip(0..)
-    {
-        let held = batch::against(&items[..], other.as_bytes()).unwrap();
-        assert_eq!(held.agree, agree);
-        let depth = held.first.expect("a difference").within.depth;
-        assert_eq!(depth, [64, 2][agree]);
-    }
-}
-
-#[test]
 fn random_items_are_the_same_for_the_same_seed() {
     let some: Vec<_> = (0..200).map(oracle::corpus::random).collect();
     assert_eq!(
         some,
         (0..200).map(oracle::corpus::random).collect::<Vec<_>>()
     );
-    let accepted = random_readings(200)
+    let accepted = some
+        .iter()
         .filter(|(reading, bytes)| {
             matches!(
                 oracle::read(bytes, *reading, oracle::Limits::default()),
@@ -252,12 +139,12 @@ fn random_items_are_the_same_for_the_same_seed() {
     );
 }
 
-/// Each of 5, 17, 18, and a 3 that shows a piece ended by LF or by CR, at least once in 200 readings.
+/// Each of 5, 17, 18, and a 3 that shows a piece ended by LF or by CR, at least once in 200 items.
 #[test]
 fn random_items_leave_things_open_and_break_strings() {
-    let items = 40_000;
+    let items = 10_000;
     let mut met = std::collections::BTreeMap::new();
-    for (reading, bytes) in random_readings(items) {
+    for (reading, bytes) in (0..items).map(oracle::corpus::random) {
         let answer = oracle::read(&bytes, reading, oracle::Limits::default());
         let oracle::Answer::Refused { number, places } = answer else {
             continue;
@@ -276,10 +163,10 @@ fn random_items_leave_things_open_and_break_strings() {
 }
 
 /// Each blank character beyond ASCII is read as one, and each of the two line terminators among them ends a `//`
-/// comment, at least once in 400 readings: another character of its length in its place would give another answer.
+/// comment, at least once in 400 items: another character of its length in its place would give another answer.
 #[test]
 fn random_items_meet_the_blanks_beyond_ascii() {
-    let items: Vec<_> = random_readings(10_000).collect();
+    let items: Vec<_> = (0..10_000).map(oracle::corpus::random).collect();
     let differ = |old: char, new: char| {
         let differs = |(reading, bytes): &&(oracle::Reading, Vec<u8>)| {
             let Ok(text) = std::str::from_utf8(bytes) else {
@@ -305,13 +192,13 @@ fn random_items_meet_the_blanks_beyond_ascii() {
 }
 
 /// Request 2: a text, a quoted string, an expression and a broken string of more than 24 bytes, and a bad byte behind
-/// as many of ASCII, each in at least one of 600 readings.
+/// as many of ASCII, each in at least one of 500 items.
 #[test]
 fn random_items_have_long_plain_stretches() {
     use oracle::{kind, Answer, Limits};
-    let items = 40_000;
+    let items = 10_000;
     let mut met = std::collections::BTreeMap::new();
-    for (reading, bytes) in random_readings(items) {
+    for (reading, bytes) in (0..items).map(oracle::corpus::random) {
         let mut long = Vec::new();
         match oracle::read(&bytes, reading, Limits::default()) {
             Answer::Accepted(records) => {
@@ -338,18 +225,18 @@ fn random_items_have_long_plain_stretches() {
     let refusals = [2, 3].map(|number| ("refusal", number));
     for what in kinds.into_iter().chain(refusals) {
         let count = met.get(&what).copied().unwrap_or(0);
-        assert!(count * 600 > items, "{what:?}: {count} of {items}");
+        assert!(count * 500 > items, "{what:?}: {count} of {items}");
     }
 }
 
-/// Request 7: one reading in four is made with names of any script. Of these some are accepted with a name beyond
-/// ASCII, some are refused at a character beyond ASCII, and some by another closing name.
+/// Request 7: one item in four is made with names of any script. Of these some are accepted with a name beyond ASCII,
+/// some are refused at a character beyond ASCII, and some by another closing name.
 #[test]
 fn random_items_have_names_beyond_ascii() {
     use oracle::{kind, Answer, Limits};
     let items = 10_000;
     let mut met = [0; 3];
-    for (reading, bytes) in random_readings(items) {
+    for (reading, bytes) in (0..items).map(oracle::corpus::random) {
         let beyond = |place: usize| bytes.get(place).is_some_and(|byte| !byte.is_ascii());
         match oracle::read(&bytes, reading, Limits::default()) {
             Answer::Accepted(records) => {
@@ -368,42 +255,9 @@ fn random_items_have_names_beyond_ascii() {
             _ => {}
         }
     }
-    assert!(met[0] * 25 > items, "{met:?}");
-    assert!(met[1] * 20 > items && met[2] * 400 > items, "{met:?}");
-}
-
-/// Request 14: of 32 items 4 are stores. Good ones and each refusal are among them, and behind them readings that are
-/// accepted just within a limit, and refused by 1 and 14 just beyond one that isn't document 01's.
-#[test]
-fn random_items_have_stores_and_readings_near_their_limits() {
-    let items = 20_000;
-    let mut met = std::collections::BTreeMap::new();
-    let mut limits = Limits::default();
-    for item in (0..items).map(corpus::random) {
-        let within = limits;
-        let line = batch::answer(&item, &mut limits);
-        let number = line.split(' ').nth(1).unwrap_or("").trim();
-        let what = match &item {
-            Item::Set(_) if line.starts_with("set") => "set",
-            Item::Set(_) => number,
-            Item::Read(..) if within == Limits::default() => continue,
-            Item::Read(..) if line.starts_with("no") => number,
-            Item::Read(_, bytes) if bytes.len() == within.bytes => "accepted, its length the limit",
-            Item::Read(reading, bytes) => {
-                let depth = within.depth - 1;
-                match oracle::read(bytes, *reading, Limits { depth, ..within }) {
-                    oracle::Answer::Accepted(_) => continue,
-                    oracle::Answer::Refused { .. } => "accepted, its depth the limit",
-                }
-            }
-        };
-        *met.entry(what.to_string()).or_insert(0) += 1;
-    }
-    let accepted = ["depth", "length"].map(|what| format!("accepted, its {what} the limit"));
-    let numbers = ["set", "31", "32", "33", "34", "1", "14"].map(String::from);
-    for what in numbers.iter().chain(&accepted) {
-        let count = met.get(what).copied().unwrap_or(0);
-        assert!(count >= 20, "{what}: {count} of {items}: {met:?}");
-    }
-    assert_eq!(limits, Limits::default());
+    assert!(met[0] * 25 > items as usize, "{met:?}");
+    assert!(
+        met[1] * 20 > items as usize && met[2] * 400 > items as usize,
+        "{met:?}"
+    );
 }
