@@ -29,7 +29,7 @@ use Rattle.name.specs.Contract.{Spelt}
 use Rattle.name.proofs.Parts.{one_made}
 use Rattle.same.proofs.Forms.{one_low}
 use Rattle.closing.specs.declared.Opened.{Opened}
-use Rattle.closing.specs.Close.{Closes, Opening, closing, closing_named}
+use Rattle.closing.specs.Close.{Closes, Opening, closing_named}
 use Rattle.closing.proofs.Repeated.{in_closed, closed_forest, part_there, close_judged, one_by_count}
 use Rattle.closing.proofs.OpenedSteps.{name_longer, name_ordered}
 

@@ -9,7 +9,7 @@ use borrow.Author.Rules.{rules}
 use borrow.Author.Tests.{leb-true, ltb-true, eqb-true, lt-ltb, lt-leb}
 use Rattle.rules.specs.Parse.{pick}
 use Rattle.rules.proofs.Run.{never, both}
-use Rattle.jsx.specs.Byte.{◌‥◌, ◌or◌}
+use Rattle.jsx.specs.Byte.{◌‥◌}
 use Rattle.jsx.specs.Ranges.{start_ranges, continue_ranges}
 use Rattle.jsx.specs.Unicode.{in_ranges, ordered_from}
 use Rattle.jsx.proofs.Unicode.{holds_range, in_range, continue_passes}

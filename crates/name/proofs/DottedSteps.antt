@@ -1,9 +1,8 @@
 -- The loop over a member's parts: what each need of its reader follows from.
 use mathlib.Core.Path.{◌≡◌, refl, sym, ◌∙◌}
-use mathlib.Core.Bool.{true, false}
 use mathlib.Core.List.{List}
 use Prim.Native.Char.{code}
-use Prim.Native.Nat.{ℕ, suc, ◌+◌, ◌*◌, ◌-◌, ◌≤◌, ◌<◌, ◌^◌}
+use Prim.Native.Nat.{ℕ, ◌+◌, ◌*◌, ◌-◌, ◌≤◌, ◌<◌, ◌^◌}
 use native.Mathlib.Omega.{arith}
 use lib.Dec.{lit<}
 use lib.ListN.{length}
@@ -11,13 +10,11 @@ use borrow.Author.Rules.{rules}
 use borrow.Author.Tests.{eq-eqb, ne_eqb}
 use mir.Syntax.{w64}
 use mir.Val.{Fits}
-use Rattle.rules.specs.Rule.{Rule, stop, done, many, seq, ◌⨾◌}
-use Rattle.rules.specs.Parse.{byte_at, trouble, read_at}
+use Rattle.rules.specs.Rule.{many, ◌⨾◌}
+use Rattle.rules.specs.Parse.{byte_at}
 use Rattle.rules.specs.Record.{row_words}
-use Rattle.rules.proofs.Run.{goes}
-use Rattle.jsx.specs.Byte.{is, need, expect}
 use Rattle.jsx.specs.Blank.{blanks}
-use Rattle.jsx.specs.Name.{part, other_part, dotted_part, dotted}
+use Rattle.jsx.specs.Name.{dotted_part, dotted}
 use Rattle.lex.specs.Contract.{nothing, Leaf}
 use Rattle.lex.specs.declared.Ans.{Ans}
 use Rattle.lex.specs.declared.Ans.TheVariants.{Got, No}

@@ -2,14 +2,12 @@
 use mathlib.Core.Path.{◌≡◌, refl, ap, ◌∙◌}
 use mathlib.Core.Bool.{true}
 use mathlib.Core.List.{List}
-use Prim.Native.Nat.{ℕ, suc, ◌+◌, ◌*◌, ◌-◌, ◌≤◌, ◌<◌, ◌^◌}
+use Prim.Native.Nat.{ℕ, suc, ◌+◌, ◌*◌, ◌-◌}
 use native.Mathlib.Omega.{arith}
 use lib.ListN.{length}
 use borrow.Author.Rules.{rules}
 use borrow.Rule.Slice.PartMut.{put_mid, mid_of}
-use mir.Syntax.{w64}
-use mir.Val.{Fits}
-use Rattle.rules.specs.Rule.{Rule, seq, many, ◌⨾◌}
+use Rattle.rules.specs.Rule.{many, ◌⨾◌}
 use Rattle.rules.specs.Forest.{direct}
 use Rattle.rules.specs.Parse.{behind}
 use Rattle.rules.specs.Record.{row_words}

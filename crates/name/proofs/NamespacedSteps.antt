@@ -1,9 +1,9 @@
 -- A name with a colon: what each need of its reader follows from.
-use mathlib.Core.Path.{◌≡◌, refl, sym, ◌∙◌}
+use mathlib.Core.Path.{◌≡◌, refl, ◌∙◌}
 use mathlib.Core.Bool.{true}
 use mathlib.Core.List.{List}
 use Prim.Native.Char.{code}
-use Prim.Native.Nat.{ℕ, suc, ◌+◌, ◌*◌, ◌-◌, ◌≤◌, ◌<◌, ◌^◌}
+use Prim.Native.Nat.{ℕ, suc, ◌+◌, ◌*◌, ◌-◌, ◌≤◌}
 use native.Mathlib.Omega.{arith}
 use lib.Dec.{lit<}
 use lib.ListN.{length}
@@ -11,7 +11,7 @@ use borrow.Author.Rules.{rules}
 use mir.Syntax.{w64}
 use mir.Val.{Fits}
 use Rattle.rules.specs.Forest.{node}
-use Rattle.rules.specs.Rule.{Rule, seq, ◌⨾◌}
+use Rattle.rules.specs.Rule.{Rule, ◌⨾◌}
 use Rattle.rules.specs.Record.{row_words}
 use Rattle.rules.proofs.Run.{goes}
 use Rattle.rules.proofs.Again.{seq_no}
@@ -19,7 +19,7 @@ use Rattle.jsx.specs.Kind as Kind
 use Rattle.jsx.specs.Byte.{need, expect}
 use Rattle.jsx.specs.Blank.{blanks}
 use Rattle.jsx.specs.Name.{dashed, part, other_part, namespaced}
-use Rattle.lex.specs.Contract.{nothing, bytes_from, Leaf, Past}
+use Rattle.lex.specs.Contract.{nothing, bytes_from, Leaf}
 use Rattle.lex.specs.declared.Ans.{Ans}
 use Rattle.lex.specs.declared.Ans.TheVariants.{Got, No}
 use Rattle.lex.proofs.Laws as Lex

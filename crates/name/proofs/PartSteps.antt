@@ -1,15 +1,14 @@
 -- A part with its row, and a part behind a dot: what each need of their readers follows from.
 use mathlib.Core.Path.{◌≡◌, refl, sym, ap, ◌∙◌}
-use mathlib.Core.Bool.{true, false}
 use mathlib.Core.List.{List}
-use Prim.Native.Nat.{ℕ, suc, ◌+◌, ◌-◌, ◌≤◌}
+use Prim.Native.Nat.{ℕ, suc, ◌-◌}
 use native.Mathlib.Omega.{arith}
 use lib.ListN.{length}
 use borrow.Author.Rules.{rules}
 use Rattle.rules.specs.Forest.{node, direct}
 use Rattle.rules.specs.Parse.{read_at}
 use Rattle.jsx.specs.Kind as Kind
-use Rattle.jsx.specs.Name.{has, dashed, part, other_part, dotted_part}
+use Rattle.jsx.specs.Name.{dashed, part, other_part, dotted_part}
 use Rattle.lex.specs.Contract.{nothing, out_of, bytes_from, Leaf}
 use Rattle.lex.specs.declared.Ans.{Ans}
 use Rattle.lex.specs.declared.Ans.TheVariants.{Got, No}

@@ -1,9 +1,8 @@
 -- The parts of names: what their rules answer, by what was read.
 use mathlib.Core.Path.{◌≡◌, refl, sym, ap, ◌∙◌}
-use mathlib.Core.Bool.{Bool, true, false}
+use mathlib.Core.Bool.{true, false}
 use mathlib.Core.List.{List}
 use Prim.Native.Nat.{ℕ, suc, ◌+◌, ◌-◌, ◌≤◌}
-use native.Mathlib.Omega.{arith}
 use lib.ListN.{length}
 use Rattle.rules.specs.Forest.{Label, node, Forest, inside, direct}
 use Rattle.rules.specs.Rule.{wrap}
@@ -16,14 +15,11 @@ use Rattle.jsx.specs.Kind as Kind
 use Rattle.jsx.specs.Byte.{need}
 use Rattle.jsx.specs.Name.{has, dashed, one_name, object_name, part, one_part, other_part, object, dotted_part}
 use Rattle.jsx.proofs.Again.{other_part_of, other_part_again}
-use Rattle.lex.specs.Contract.{nothing, out_of, bytes_from, Leaf}
-use Rattle.lex.specs.declared.Ans.{Ans}
-use Rattle.lex.specs.declared.Ans.TheVariants.{Got, No}
-use Rattle.lex.proofs.Laws as Lex
-use Rattle.lex.proofs.Bare.{goes_part, bare_part, direct_got}
+use Rattle.lex.specs.Contract.{out_of, bytes_from}
+use Rattle.lex.specs.declared.Ans.TheVariants.{Got}
+use Rattle.lex.proofs.Bare.{bare_part, direct_got}
 use Rattle.table.specs.Slot.{Seat}
 use Rattle.table.specs.Reader.{Made}
-use Rattle.table.proofs.Made.{refused, made_as}
 use Rattle.table.proofs.Upto.{leaf_made}
 use Rattle.name.specs.Contract.{Spelt}
 

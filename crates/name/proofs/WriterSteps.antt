@@ -2,7 +2,7 @@
 use mathlib.Core.Path.{◌≡◌, refl}
 use mathlib.Core.Bool.{Bool, true, false}
 use mathlib.Core.List.{List}
-use Prim.Native.Nat.{ℕ, ◌+◌, ◌*◌, ◌-◌, ◌≤◌, ◌<◌, ◌^◌}
+use Prim.Native.Nat.{ℕ, ◌≤◌}
 use native.Mathlib.Omega.{arith}
 use lib.ListN.{length}
 use borrow.Author.Rules.{rules}
@@ -10,7 +10,6 @@ use Rattle.rules.specs.Forest.{Label, node}
 use Rattle.rules.specs.Parse.{pick}
 use Rattle.jsx.specs.Kind as Kind
 use Rattle.jsx.specs.Name.{has, first_is, dashed, is_this, opens_reference, one_name, object_name}
-use Rattle.lex.specs.Contract.{bytes_from}
 use Rattle.table.specs.Slot.{Seat}
 use Rattle.table.specs.Contract.{Words, Stored}
 use Rattle.table.specs.Reader.{Room}

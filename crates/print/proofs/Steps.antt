@@ -5,7 +5,7 @@ use Prim.Native.Nat.{ℕ, ◌+◌, ◌*◌, ◌≤◌, ◌<◌, ◌^◌}
 use native.Mathlib.Omega.{arith}
 use borrow.Author.Rules.{rules}
 use borrow.Author.Tests.{ne_eqb}
-use Rattle.jsx.specs.Table.{Outcome, accepted, refused}
+use Rattle.jsx.specs.Table.{accepted, refused}
 use Rattle.jsx.specs.Program.{row_lines, printed}
 use Rattle.put.specs.Text.{Prints, row_bytes, ok_line, no_line}
 use Rattle.put.proofs.Steps.{then, said}

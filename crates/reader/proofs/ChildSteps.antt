@@ -13,7 +13,7 @@ use mir.Syntax.{w64}
 use mir.Val.{Fits}
 use Rattle.rules.specs.Forest.{Forest, nil}
 use Rattle.rules.specs.Rule.{Rule, done, stop, refuse, when, after, many, here, ◌⇒◌∣◌}
-use Rattle.rules.specs.Parse.{Answer, got, trouble, pick, behind, byte_at, parse, read_at}
+use Rattle.rules.specs.Parse.{Answer, got, trouble, pick, byte_at, parse, read_at}
 use Rattle.rules.specs.Record.{row_words, count}
 use Rattle.rules.proofs.Forests.{behind_nil}
 use Rattle.rules.proofs.Run.{goes, never, wide_got}

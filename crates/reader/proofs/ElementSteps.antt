@@ -6,15 +6,14 @@ use Prim.Native.Char.{code}
 use Prim.Native.Nat.{ℕ, zero, suc, ◌-◌}
 use native.Mathlib.Omega.{arith}
 use lib.ListN.{length}
-use Rattle.rules.specs.Forest.{inside}
-use Rattle.rules.specs.Rule.{refuse, ◌⨾◌}
-use Rattle.rules.specs.Parse.{trouble, behind, byte_at, parse, read_at}
+use Rattle.rules.specs.Rule.{◌⨾◌}
+use Rattle.rules.specs.Parse.{trouble, byte_at, parse, read_at}
 use Rattle.rules.proofs.Run.{unmarked, calm}
 use Rattle.rules.proofs.Again.{after_no, seq_no}
-use Rattle.jsx.specs.Byte.{is, ◌or◌}
+use Rattle.jsx.specs.Byte.{is}
 use Rattle.jsx.specs.Blank.{blank, blanks, comment, comment_turn, line_comment, line_turn, pass}
 use Rattle.jsx.specs.Expression.{no_sibling}
-use Rattle.jsx.specs.Element.{child, children, fragment_in, named_in}
+use Rattle.jsx.specs.Element.{fragment_in, named_in}
 use Rattle.jsx.specs.Depth.{element_too_deep, within}
 use Rattle.jsx.proofs.Goes.{within_goes}
 use Rattle.lex.specs.Contract.{nothing, Leaf, Past}

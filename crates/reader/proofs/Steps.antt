@@ -12,7 +12,7 @@ use mir.Syntax.{w64}
 use mir.Val.{Fits}
 use Rattle.rules.specs.Forest.{node, Forest}
 use Rattle.rules.specs.Rule.{Rule, stop, seq, many, node_of, ◌⨾◌}
-use Rattle.rules.specs.Parse.{Answer, got, trouble, behind, parse, read_at}
+use Rattle.rules.specs.Parse.{Answer, got, trouble, parse, read_at}
 use Rattle.rules.specs.Record.{row_words, count}
 use Rattle.rules.proofs.Forests.{behind_nil}
 use Rattle.rules.proofs.Run.{goes, wide_got}

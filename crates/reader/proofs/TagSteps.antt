@@ -3,19 +3,19 @@ use mathlib.Core.Path.{◌≡◌, refl, sym, ap, subst, ◌∙◌}
 use mathlib.Core.Bool.{Bool, true, false}
 use mathlib.Core.List.{List}
 use Prim.Native.Char.{code}
-use Prim.Native.Nat.{ℕ, suc, ◌+◌, ◌*◌, ◌-◌, ◌≤◌, ◌<◌}
+use Prim.Native.Nat.{ℕ, suc, ◌+◌, ◌*◌, ◌-◌, ◌≤◌}
 use native.Mathlib.Omega.{arith}
 use lib.ListN.{length}
 use lib.Dec.{lit<}
 use lib.Seq.{sets}
 use borrow.Author.Tests.{eq-eqb}
 use borrow.Rule.Slice.PartMut.{put_mid, mid_of}
-use Rattle.rules.specs.Forest.{node, content, Forest, nil, byte, group, ◌⋈◌, width, inside}
+use Rattle.rules.specs.Forest.{node, Forest, nil, byte, group, ◌⋈◌, width, inside}
 use Rattle.rules.specs.Rule.{Rule, step, ◌⨾◌}
 use Rattle.rules.specs.Parse.{Answer, got, trouble, pick, behind, byte_at, parse, read_at}
 use Rattle.rules.specs.Record.{row_words, count}
 use Rattle.rules.proofs.Forests.{count_behind}
-use Rattle.rules.proofs.Run.{goes, wide_got}
+use Rattle.rules.proofs.Run.{wide_got}
 use Rattle.rules.proofs.Got.{behind_out}
 use Rattle.rules.proofs.Again.{seq_no, wrap_got}
 use Rattle.jsx.specs.Kind as Kind
@@ -43,7 +43,7 @@ use Rattle.same.specs.Contract.{Named}
 use Rattle.same.proofs.Forms.{name_at}
 use Rattle.closing.specs.declared.Opened.{Opened}
 use Rattle.tag.specs.Token.{goes_on}
-use Rattle.closing.specs.Close.{Opening, name_from, name_count, closing, closing_named}
+use Rattle.closing.specs.Close.{name_from, name_count, closing, closing_named}
 use Rattle.tag.proofs.Rules.{goes_element_name, bare_end}
 use Rattle.closing.proofs.Verdict.{closed_by, opening_name, no_name_lem, paired_named, paired_plain}
 use Rattle.row.specs.Shut.{Shut}

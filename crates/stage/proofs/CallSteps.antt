@@ -1,23 +1,20 @@
 -- From a reading to what its calls answer. Of a reading, `stage` or `run`.
-use mathlib.Core.Path.{◌≡◌, refl, sym, ap, subst, ◌∙◌}
-use mathlib.Core.Bool.{Bool, true, false}
+use mathlib.Core.Path.{◌≡◌, refl, sym, ap, ◌∙◌}
+use mathlib.Core.Bool.{Bool}
 use mathlib.Core.List.{List, []}
-use Prim.Native.Nat.{ℕ, ◌+◌, ◌*◌, ◌/◌, ◌≤◌, ◌<◌}
+use Prim.Native.Nat.{ℕ, ◌/◌, ◌≤◌, ◌<◌}
 use native.Mathlib.Omega.{arith}
 use lib.ListN.{length}
-use lib.Dec.{leb}
 use lib.Seq.{sets}
 use borrow.Author.Rules.{rules}
 use borrow.Author.Tests.{le-leb, lt-leb}
 use Rattle.rules.specs.Forest.{Forest}
 use Rattle.rules.specs.Rule.{Rule}
-use Rattle.rules.specs.Parse.{Answer, got, trouble, pick, and_then, read_at, parse_all}
+use Rattle.rules.specs.Parse.{Answer, got, trouble, and_then, read_at, parse_all}
 use Rattle.rules.specs.Record.{row_words, count, records}
 use Rattle.rules.proofs.Forests.{length_records}
-use Rattle.rules.proofs.Got.{trouble_got, got_same}
 use Rattle.jsx.specs.Utf8.{utf8}
-use Rattle.jsx.specs.Refusal.{table_too_small}
-use Rattle.jsx.specs.Reading.{standard, answer, stage, run}
+use Rattle.jsx.specs.Reading.{standard, answer}
 use Rattle.jsx.specs.Table.{Outcome, missing, accepted, refused, holds, written, checked, read_into, check, read}
 use Rattle.jsx.specs.Compose.{IsGot, WellFormed}
 use Rattle.jsx.proofs.Calls.{not_too_long}
@@ -26,7 +23,6 @@ use Rattle.jsx.proofs.Numbers.{Numbering, stage_numbers, run_numbers, refusal_nu
 use Rattle.lex.specs.Contract.{view, out_of}
 use Rattle.lex.specs.declared.Ans.{Ans}
 use Rattle.lex.specs.declared.Ans.TheVariants.{Got, No}
-use Rattle.lex.proofs.Laws as Lex
 use Rattle.table.specs.Slot.{rows_from}
 use Rattle.table.specs.Reader.{counted, Made}
 use Rattle.table.proofs.Laws.{sets_written}

@@ -2,8 +2,8 @@
 use mathlib.Core.Path.{◌≡◌, refl, sym, ap, ◌∙◌}
 use mathlib.Core.Logic.{◌⊎◌, inl, inr}
 use mathlib.Core.Bool.{Bool, true, false}
-use mathlib.Core.List.{List, []}
-use Prim.Native.Nat.{ℕ, ◌≤◌, ◌<◌}
+use mathlib.Core.List.{List}
+use Prim.Native.Nat.{ℕ}
 use native.Mathlib.Omega.{arith}
 use lib.Dec.{leb}
 use borrow.Author.Tests.{leb-false}
@@ -13,11 +13,11 @@ use Rattle.rules.specs.Parse.{Answer, got, trouble, pick}
 use Rattle.rules.specs.Record.{count, records}
 use Rattle.jsx.specs.Refusal.{table_too_small}
 use Rattle.jsx.specs.Reading.{standard, answer, stage, run}
-use Rattle.jsx.specs.Table.{Outcome, missing, accepted, refused, holds, written, checked, read_into, check, read}
+use Rattle.jsx.specs.Table.{missing, accepted, refused, holds, written, checked, read_into, check, read}
 use Rattle.jsx.proofs.Numbers.{Numbering, stage_numbers, run_numbers, refusal_number}
 use Rattle.stage.specs.declared.Reply.{Reply}
 use Rattle.stage.specs.declared.Reply.TheVariants.{Accepted, Refused}
-use Rattle.stage.specs.Call.{outcome, Checks, Reads}
+use Rattle.stage.specs.Call.{Checks, Reads}
 use Rattle.stage.specs.Demand1.{EveryInputIsAnswered, ChecksRefuseByDefinition, TooSmall, ReadsRefuseByDefinition}
 use Rattle.stage.specs.Demand1.{RefusalsWriteNothing}
 use Rattle.stage.proofs.CallSteps.{not_both, checked_no}

@@ -1,24 +1,23 @@
 -- Demand 2: specs/Demand2.antt proved, statement by statement.
 use mathlib.Core.Path.{◌≡◌, refl, sym, ap, subst, ◌∙◌}
-use mathlib.Core.Bool.{Bool, true, false}
-use mathlib.Core.List.{List, [], ◌∷◌, ◌++◌}
+use mathlib.Core.Bool.{true}
+use mathlib.Core.List.{List, [], ◌++◌}
 use Prim.Native.Nat.{ℕ, ◌*◌, ◌≤◌, ◌<◌}
 use native.Mathlib.Omega.{arith}
 use native.Mathlib.Decide.{dec_lt}
 use lib.ListN.{get_or}
-use lib.Dec.{leb}
 use borrow.Author.Tests.{lt-leb}
 use Rattle.rules.specs.Forest.{Forest}
 use Rattle.rules.specs.Rule.{Rule}
-use Rattle.rules.specs.Parse.{Answer, got, trouble, pick}
+use Rattle.rules.specs.Parse.{Answer, got, trouble}
 use Rattle.rules.specs.Record.{row_words, row, count}
 use Rattle.jsx.specs.Byte.{bytes_of}
 use Rattle.jsx.specs.Kind as Kind
 use Rattle.jsx.specs.Refusal.{table_too_small, names_differ}
 use Rattle.jsx.specs.Reading.{standard, answer, stage, run}
-use Rattle.jsx.specs.Table.{Outcome, missing, accepted, refused, holds}
+use Rattle.jsx.specs.Table.{Outcome, accepted, refused, holds}
 use Rattle.jsx.specs.Table.{written, checked, read_into, check, read, table_word}
-use Rattle.jsx.specs.Compose.{count_of, ReadAs, rows_of}
+use Rattle.jsx.specs.Compose.{ReadAs, rows_of}
 use Rattle.jsx.proofs.Case.{whole_language}
 use Rattle.jsx.proofs.Accepted.{check_zero, accepted_answer, accepted_check, accepted_read, read_accepted}
 use Rattle.jsx.proofs.Numbers.{Numbering, stage_numbers, run_numbers, refusal_number}

@@ -1,23 +1,22 @@
 -- The two readings, step by step, from the readers' answers.
-use mathlib.Core.Path.{◌≡◌, refl, sym, ap, ◌∙◌}
+use mathlib.Core.Path.{◌≡◌, refl, sym, ◌∙◌}
 use mathlib.Core.Bool.{Bool, true, false}
 use mathlib.Core.List.{List}
 use Prim.Native.Char.{code}
-use Prim.Native.Nat.{ℕ, suc, ◌+◌, ◌*◌, ◌≤◌, ◌<◌, ◌^◌}
+use Prim.Native.Nat.{ℕ, suc, ◌≤◌, ◌<◌}
 use native.Mathlib.Omega.{arith}
 use lib.Dec.{lit<}
 use lib.ListN.{length}
 use borrow.Author.Rules.{rules}
 use Rattle.rules.specs.Forest.{Forest}
-use Rattle.rules.specs.Rule.{Test, Rule, done, refuse, when, seq, here, ◌⨾◌, ◌⇒◌∣◌}
-use Rattle.rules.specs.Parse.{Answer, got, trouble, pick, byte_at, parse, read_at}
-use Rattle.rules.specs.Record.{row_words}
+use Rattle.rules.specs.Rule.{Rule, done, refuse, when, here, ◌⨾◌, ◌⇒◌∣◌}
+use Rattle.rules.specs.Parse.{Answer, got, trouble, byte_at, parse, read_at}
 use Rattle.rules.proofs.Run.{goes}
 use Rattle.rules.proofs.Flat.{seq_assoc}
 use Rattle.jsx.specs.Refusal.{unexpected, after_stage}
 use Rattle.jsx.specs.Byte.{is, end, need}
 use Rattle.jsx.specs.Blank.{blanks}
-use Rattle.jsx.specs.Expression.{no_sibling, sibling}
+use Rattle.jsx.specs.Expression.{no_sibling}
 use Rattle.jsx.specs.Element.{children}
 use Rattle.jsx.specs.Depth.{within}
 use Rattle.jsx.specs.Reading.{stage, run}
@@ -27,7 +26,7 @@ use Rattle.lex.specs.declared.Ans.{Ans}
 use Rattle.lex.specs.declared.Ans.TheVariants.{Got, No}
 use Rattle.lex.proofs.Laws as Lex
 use Rattle.lex.proofs.Bare.{goes_blanks, bare_blanks}
-use Rattle.table.specs.Slot.{Seat, seat_behind}
+use Rattle.table.specs.Slot.{Seat}
 use Rattle.table.specs.Reader.{Room, Made}
 use Rattle.table.proofs.Made.{refused}
 use Rattle.table.proofs.Upto.{Upto, upto_begin, upto_as, upto_count}

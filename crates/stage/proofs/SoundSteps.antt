@@ -1,23 +1,18 @@
 -- The first two tests, and a reply made of an answer: what each need of their functions follows from.
-use mathlib.Core.Path.{◌≡◌, refl, sym, ap, subst, ◌∙◌}
-use mathlib.Core.Bool.{Bool}
+use mathlib.Core.Path.{◌≡◌, sym, ap, subst, ◌∙◌}
 use mathlib.Core.List.{List}
 use Prim.Native.Nat.{ℕ, ◌≤◌, ◌<◌}
-use native.Mathlib.Omega.{arith}
 use lib.ListN.{length}
 use borrow.Author.Rules.{rules}
-use Rattle.rules.specs.Forest.{Forest}
-use Rattle.rules.specs.Rule.{Rule}
-use Rattle.rules.specs.Parse.{Answer, got, trouble, and_then, read_at, parse_all}
+use Rattle.rules.specs.Parse.{Answer, trouble, and_then, read_at, parse_all}
 use Rattle.jsx.specs.Utf8.{utf8}
 use Rattle.jsx.specs.Reading.{standard}
 use Rattle.jsx.specs.Compose.{IsGot, WellFormed}
 use Rattle.jsx.proofs.Calls.{too_long_lem, not_too_long}
-use Rattle.lex.specs.Contract.{out_of, nothing, Leaf}
+use Rattle.lex.specs.Contract.{nothing, Leaf}
 use Rattle.lex.specs.declared.Ans.{Ans}
 use Rattle.lex.specs.declared.Ans.TheVariants.{Got, No}
 use Rattle.lex.proofs.Laws as Lex
-use Rattle.stage.specs.declared.Reply.{Reply}
 use Rattle.stage.specs.declared.Reply.TheVariants.{Accepted, Refused}
 use Rattle.stage.specs.Call.{reply_of, Sound}
 

@@ -1,11 +1,11 @@
 -- Each promise allows one answer: specs/Tight.antt proved, statement by statement.
-use mathlib.Core.Path.{◌≡◌, refl, sym, ap, ◌∙◌}
+use mathlib.Core.Path.{◌≡◌, sym, ap, ◌∙◌}
 use mathlib.Core.List.{List, []}
 use Prim.Native.Nat.{ℕ}
 use Rattle.rules.specs.Rule.{Rule}
 use Rattle.rules.specs.Parse.{Answer, got, trouble}
-use Rattle.jsx.specs.Reading.{standard, stage, run}
-use Rattle.jsx.specs.Table.{Outcome, accepted, refused, check, read}
+use Rattle.jsx.specs.Reading.{stage, run}
+use Rattle.jsx.specs.Table.{Outcome, accepted, refused}
 use Rattle.stage.specs.declared.Reply.{Reply}
 use Rattle.stage.specs.declared.Reply.TheVariants.{Accepted, Refused}
 use Rattle.stage.specs.Call.{outcome, Numbered}

@@ -3,7 +3,7 @@
 use mathlib.Core.Path.{◌≡◌}
 use mathlib.Core.Bool.{Bool}
 use mathlib.Core.List.{List}
-use Prim.Native.Nat.{ℕ, ◌+◌, ◌*◌, ◌≤◌, ◌<◌, ◌^◌}
+use Prim.Native.Nat.{ℕ, ◌+◌, ◌≤◌, ◌<◌, ◌^◌}
 use native.Mathlib.Omega.{arith}
 use lib.ListN.{length}
 use borrow.Author.Rules.{rules}
@@ -14,7 +14,7 @@ use Rattle.rules.specs.Rule.{Rule}
 use Rattle.lex.specs.Contract.{Leaf, Past}
 use Rattle.lex.specs.declared.Ans.{Ans}
 use Rattle.lex.specs.declared.Ans.TheVariants.{Got}
-use Rattle.table.specs.Slot.{Seat, seat_inside, seat_behind}
+use Rattle.table.specs.Slot.{Seat, seat_inside}
 use Rattle.table.specs.Contract.{Enterable}
 use Rattle.table.specs.Reader.{Room, Made}
 

@@ -9,7 +9,7 @@ use borrow.Author.Rules.{rules}
 use mir.Syntax.{w32}
 use mir.Val.{Fits}
 use Rattle.table.specs.declared.Slot.{Slot}
-use Rattle.table.specs.Slot.{Seat, level, seat, seat_inside, seat_behind}
+use Rattle.table.specs.Slot.{level, seat, seat_inside, seat_behind}
 use Rattle.table.specs.Contract.{Enterable, Words, Put, Stored}
 
 -- The low half is the number,

@@ -1,9 +1,8 @@
 -- Pieces of the rules of expressions, braces and tags: what stands between two readers of the cycle.
 -- Each is a part of a rule of the definition, cut out where the code is cut.
-use Prim.Native.Char.{code}
-use Rattle.std.specs.Prelude.{ℕ, zero, suc, List, [], ◌∷◌}
+use Rattle.std.specs.Prelude.{ℕ, [], ◌∷◌}
 use Rattle.rules.specs.Rule.{Rule, done, stop, step, refuse, when, starts, after, here, ◌⨾◌, ◌⇒◌∣◌}
-use Rattle.jsx.specs.Refusal.{unexpected, too_deep}
+use Rattle.jsx.specs.Refusal.{unexpected}
 use Rattle.jsx.specs.Byte.{is, expect, ◌or◌}
 use Rattle.jsx.specs.Blank.{blanks, pass}
 use Rattle.jsx.specs.Word.{word}
