@@ -5,7 +5,6 @@
 // Standard input, as the system numbers it.
 const STDIN_FILENO: i32 = 0;
 
-
 fn main() {
     let mut input = room::input_room();
     let mut t = room::table_room();

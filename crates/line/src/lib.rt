@@ -86,7 +86,7 @@ pub fn write_line(out: &mut [u8], at: usize)
 
 // How a byte of the source is put: as it is, in a line of the source or within words; or what stands under it, in front
 // of a mark or marked. Behind a byte that is not UTF-8 a line of the source may have bytes that are no characters.
-#[derive(Drop)]
+#[derive(Clone, Copy)]
 enum Way {
     AsIs,
     InLine,

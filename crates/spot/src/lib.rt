@@ -11,7 +11,7 @@ const CONTINUATION: u32 = 128;
 const LEAD: u32 = 192;
 
 // A place's line and column, and the place where the line begins.
-#[derive(Drop)]
+#[derive(Clone, Copy)]
 pub struct Place {
     pub line: usize,
     pub column: usize,

@@ -22,7 +22,7 @@ pub const MOST_BYTES: usize = 1_048_576;
 const DEPTH: usize = 64;
 
 // What a call answers.
-#[derive(Drop)]
+#[derive(Clone, Copy)]
 pub enum Reply {
     // Accepted, with so many records.
     Accepted(usize),
