@@ -1,4 +1,4 @@
-//! Links the archive of the library: the one that `LORIKVAR_ARCHIVE` names, else what `rt staticlib abi` makes
+//! Links the archive of the library: the one that `LORIKVAR_ARCHIVE` names, else what `rt lib` makes in crates/abi
 //! of the repository that this crate stands in.
 
 use std::env;
@@ -55,17 +55,17 @@ fn made() -> Result<PathBuf, String> {
     }
     let ways = "set LORIKVAR_ARCHIVE to the archive, or build in the repository with the kit's `rt` on the PATH";
     let run = Command::new("rt")
-        .args(["staticlib", "abi"])
-        .current_dir(&root)
+        .arg("lib")
+        .current_dir(root.join("crates/abi"))
         .output();
-    let output = run.map_err(|error| format!("cannot run `rt staticlib abi`: {error}; {ways}"))?;
+    let output = run.map_err(|error| format!("cannot run `rt lib`: {error}; {ways}"))?;
     if output.status.success() {
-        return given(root.join("target/staticlib/libabi.a"));
+        return given(root.join("crates/abi/out/libabi.a"));
     }
     let said = String::from_utf8_lossy(&output.stdout).into_owned()
         + &String::from_utf8_lossy(&output.stderr);
     Err(format!(
-        "`rt staticlib abi` failed; {ways}. It said:\n{said}"
+        "`rt lib` failed; {ways}. It said:\n{said}"
     ))
 }
 
