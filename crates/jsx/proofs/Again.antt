@@ -7,7 +7,7 @@ use Prim.Native.Nat.{ℕ, ◌+◌, ◌<◌}
 use Prim.Native.Char.{Char}
 use lib.ListN.{length}
 use Rattle.rules.specs.Forest.{node, Forest, nil, byte, group, ◌⋈◌, direct}
-use Rattle.rules.specs.Rule.{Test, Rule, done, stop, step, refuse, after, many, fromMark, node_of, ◌⨾◌}
+use Rattle.rules.specs.Rule.{Test, Rule, done, stop, step, refuse, after, many, from_mark, node_of, ◌⨾◌}
 use Rattle.rules.specs.Parse.{Answer, got, pick, behind, byte_at, parse}
 use Rattle.rules.proofs.Run.{behind_behind}
 use Rattle.rules.proofs.Again.{grouped, step_got, wrap_answer, wrap_got, after_got, choice_got, again, again_wrap}
@@ -174,13 +174,13 @@ module _ (s : List ℕ) (F e at : ℕ) where
 
     -- An empty value begins by what was looked over; then `}`, and the refusal, marked where the value begins.
     pub empty_value_again : parse s F empty_value_braces e at
-        ≡ behind o (parse s F (expect "}" ⨾ refuse empty_value fromMark) at q)
+        ≡ behind o (parse s F (expect "}" ⨾ refuse empty_value from_mark) at q)
     unfolding empty_value_braces
     empty_value_again = again_marked s F pass e at h _
 
     -- `}` tells an empty value from a container.
     pub value_braces_in_once : (n : Inner) → parse s F (value_braces_in n) e at ≡
-        pick (is "}" (byte_at s q)) (behind o (parse s F (expect "}" ⨾ refuse empty_value fromMark) at q))
+        pick (is "}" (byte_at s q)) (behind o (parse s F (expect "}" ⨾ refuse empty_value from_mark) at q))
         (node_around Kind.container (behind o (parse s F (expression n ⨾ blanks ⨾ close_container) e q)))
     unfolding value_braces_in
     value_braces_in_once n =

@@ -1,6 +1,6 @@
 -- What stands in braces. Chapters 'Markup' and 'The table'.
 use Rattle.std.specs.Prelude.{ℕ}
-use Rattle.rules.specs.Rule.{Rule, step, refuse, when, starts, after, marked, here, fromMark, thisByte, node_of, ◌⨾◌}
+use Rattle.rules.specs.Rule.{Rule, step, refuse, when, starts, after, marked, here, from_mark, this_byte, node_of, ◌⨾◌}
 use Rattle.rules.specs.Rule.{◌⇒◌∣◌}
 use Rattle.jsx.specs.Refusal.{unexpected, empty_value, comma_in_braces}
 use Rattle.jsx.specs.Kind as Kind
@@ -11,7 +11,7 @@ use Rattle.jsx.specs.Expression.{Inner, expression}
 -- `{expression}`. D: "comma after the expression of `{expression}`" is 16 at "that byte: p, p + 1".
 unfoldable pub close_container : Rule
 close_container =
-    when (is ",") ⇒ refuse comma_in_braces thisByte
+    when (is ",") ⇒ refuse comma_in_braces this_byte
     ∣ expect "}"
 
 unfoldable pub container : Inner → Rule
@@ -41,7 +41,7 @@ child_braces_in n =
 
 -- D: "attribute `={}` with nothing or blanks inside" is 11 at "the braces".
 unfoldable pub empty_value_braces : Rule
-empty_value_braces = marked (pass ⨾ expect "}" ⨾ refuse empty_value fromMark)
+empty_value_braces = marked (pass ⨾ expect "}" ⨾ refuse empty_value from_mark)
 
 unfoldable pub value_braces_in : Inner → Rule
 value_braces_in n =

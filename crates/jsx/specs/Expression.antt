@@ -1,6 +1,6 @@
 -- Expressions. Chapter 'Inside braces'. The levels are document 01's, each over what may be entered one level deeper.
 use Rattle.std.specs.Prelude.{ℕ}
-use Rattle.rules.specs.Rule.{Test, Rule, done, stop, step, refuse, when, starts, after, many, here, thisByte, node_of}
+use Rattle.rules.specs.Rule.{Test, Rule, done, stop, step, refuse, when, starts, after, many, here, this_byte, node_of}
 use Rattle.rules.specs.Rule.{◌⨾◌, ◌⇒◌∣◌}
 use Rattle.jsx.specs.Refusal.{unexpected, adjacent}
 use Rattle.jsx.specs.Kind as Kind
@@ -28,7 +28,7 @@ unfoldable pub sibling : ℕ → Rule
 sibling n =
     starts (bytes_of "<<") ⇒ refuse n here
     ∣ starts (bytes_of "<=") ⇒ refuse n here
-    ∣ refuse adjacent thisByte
+    ∣ refuse adjacent this_byte
 
 unfoldable pub no_sibling : ℕ → Rule
 no_sibling n =

@@ -2,7 +2,7 @@
 use Rattle.std.specs.Prelude.{ℕ, Bool, true, false, List, [], ◌∷◌, eqb}
 use Prim.Native.Char.{Char, code}
 use Rattle.rules.specs.Forest.{Label, node, direct, inside}
-use Rattle.rules.specs.Rule.{Test, Rule, done, stop, refuse, when_char, after, many, wrap, said, marked, fromMark}
+use Rattle.rules.specs.Rule.{Test, Rule, done, stop, refuse, when_char, after, many, wrap, said, marked, from_mark}
 use Rattle.rules.specs.Rule.{node_of, ◌⨾◌, ◌⇒◌∣◌}
 use Rattle.rules.specs.Parse.{pick}
 use Rattle.jsx.specs.Refusal.{dash_after_dot}
@@ -76,7 +76,7 @@ namespaced = node_of Kind.namespaced (other_part ⨾ blanks ⨾ expect ":" ⨾ b
 
 -- D: "After a dot no part may hold `-`"; 10 at "that part", "as soon as the part ends".
 unfoldable pub dotted_part : Rule
-dotted_part = marked (said (λ o. has "-" (direct (inside o))) other_part (refuse dash_after_dot fromMark) done)
+dotted_part = marked (said (λ o. has "-" (direct (inside o))) other_part (refuse dash_after_dot from_mark) done)
 
 -- D: "7 holds a 5 (`this`) or 4, then 16s."
 unfoldable pub object_name : List ℕ → Label

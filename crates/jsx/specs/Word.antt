@@ -3,7 +3,7 @@ use Rattle.std.specs.Prelude.{ℕ, Bool, true, false, List, [], ◌∷◌, ◌++
 use Prim.Native.Char.{Char}
 use Prim.Native.String.{String}
 use Rattle.rules.specs.Forest.{direct}
-use Rattle.rules.specs.Rule.{Rule, done, stop, step, refuse, when, many, said, marked, here, mark, fromMark, ◌⨾◌, ◌⇒◌∣◌}
+use Rattle.rules.specs.Rule.{Rule, done, stop, step, refuse, when, many, said, marked, here, mark, from_mark, ◌⨾◌, ◌⇒◌∣◌}
 use Rattle.rules.specs.Parse.{pick}
 use Rattle.jsx.specs.Refusal.{unexpected, string_never_closed}
 use Rattle.jsx.specs.Byte.{bytes_of, is, end, digit, line_end, need}
@@ -78,7 +78,7 @@ string_turn q =
     when end ⇒ refuse string_never_closed mark
     ∣ when (is q) ⇒ stop
     ∣ when (is "\\") ⇒ refuse unexpected here
-    ∣ when line_end ⇒ refuse unexpected fromMark
+    ∣ when line_end ⇒ refuse unexpected from_mark
     ∣ step
 
 unfoldable pub string_by : Char → Rule

@@ -10,7 +10,7 @@ use lib.Dec.{lit<}
 use borrow.Author.Tests.{eq-eqb}
 use borrow.Rule.Slice.PartMut.{put_mid, mid_of}
 use Rattle.rules.specs.Forest.{node, Forest, nil}
-use Rattle.rules.specs.Rule.{Rule, done, step, refuse, when, after, fromMark, node_of, ◌⨾◌, ◌⇒◌∣◌}
+use Rattle.rules.specs.Rule.{Rule, done, step, refuse, when, after, from_mark, node_of, ◌⨾◌, ◌⇒◌∣◌}
 use Rattle.rules.specs.Parse.{Answer, got, trouble, pick, and_then, behind, byte_at, parse, parsed, read_at}
 use Rattle.rules.specs.Record.{row_words}
 use Rattle.rules.proofs.Run.{goes, never, unmarked, calm, wide_got}
@@ -271,9 +271,9 @@ empty_value_lem {s} {at} {p} l y =
     let F = suc (length s) in
     let i = Lex.before_end s p (code "}") y (lit< tt) in
     let passed : parsed s pass at at ≡ got true (out_of (read_at s pass at)) p = unmarked s F pass refl at 0 at ∙ l.is in
-    Lex.seq_is s F at at pass (expect "}" ⨾ refuse empty_value fromMark) passed
+    Lex.seq_is s F at at pass (expect "}" ⨾ refuse empty_value from_mark) passed
     ∙ ap (behind (out_of (read_at s pass at)))
-    (Lex.seq_is s F at p (expect "}") (refuse empty_value fromMark)
+    (Lex.seq_is s F at p (expect "}") (refuse empty_value from_mark)
     (Lex.when_yes s F at p (is "}") step need (eq-eqb _ (code "}") y) ∙ Lex.step_is s F at p i))
 
 module _ (d : ℕ) (s : List ℕ) (at : ℕ) {b : ℕ} (y : b ≡ byte_at s at) where

@@ -5,7 +5,7 @@ use mathlib.Core.List.{List}
 use Prim.Native.Nat.{ℕ}
 use native.Mathlib.Omega.{arith}
 use Rattle.rules.specs.Forest.{Label, content, Forest, nil, group, ◌⋈◌}
-use Rattle.rules.specs.Rule.{Place, here, mark, fromMark, thisByte, Verdict, fine, differ, Rule, seq, wrap, said}
+use Rattle.rules.specs.Rule.{Place, here, mark, from_mark, this_byte, Verdict, fine, differ, Rule, seq, wrap, said}
 use Rattle.rules.specs.Rule.{paired}
 use Rattle.rules.specs.Parse.{Answer, got, trouble, pick, and_then, behind, refusal, judged, parse}
 use Rattle.rules.proofs.Run.{Then, Either, goes, on, got_goes}
@@ -24,8 +24,8 @@ pub refusal_got : {X : Type 0} (n : ℕ) (w : Place) (e at : ℕ) {a : Bool} {o 
     → X
 refusal_got n here e at h = trouble_got h
 refusal_got n mark e at h = trouble_got h
-refusal_got n fromMark e at h = trouble_got h
-refusal_got n thisByte e at h = trouble_got h
+refusal_got n from_mark e at h = trouble_got h
+refusal_got n this_byte e at h = trouble_got h
 
 -- The three parts of what was got.
 pub got_same : {a b : Bool} {o v : Forest} {p q : ℕ} → got a o p ≡ got b v q → (a ≡ b) × (o ≡ v) × (p ≡ q)

@@ -109,9 +109,9 @@ module _ (w : Forest) (k x : ℕ) (c : Forest) (k' x' : ℕ) (c' v : Forest) (at
           (λ q l r. o q (omega arith) (omega arith)))
           ∙ records_same v refl (omega (arith, count_one)) refl (omega arith)
 
-module _ (isText : Label → Bool) where
+module _ (is_text : Label → Bool) where
   -- Nothing joined behind a forest is that forest.
-  pub join_nil : (u : Forest) → join isText u nil ≡ u
+  pub join_nil : (u : Forest) → join is_text u nil ≡ u
   unfolding join meet
   join_nil nil = refl
   join_nil (byte b u) = ap (byte b) (join_nil u)
@@ -120,7 +120,7 @@ module _ (isText : Label → Bool) where
   join_nil (group l c (group l' c' u)) = ap (group l c) (join_nil (group l' c' u))
 
   -- What is no text stays apart from what follows.
-  pub meet_left : (l : Label) (c v : Forest) → isText l ≡ false → meet isText l c v ≡ group l c v
+  pub meet_left : (l : Label) (c v : Forest) → is_text l ≡ false → meet is_text l c v ≡ group l c v
   unfolding meet
   meet_left l c nil h = refl
   meet_left l c (byte b v) h = refl
@@ -128,20 +128,20 @@ module _ (isText : Label → Bool) where
 
   -- A text stays apart from what is no text.
   pub meet_right : (l : Label) (c : Forest) (l' : Label) (c' v : Forest)
-      → isText l' ≡ false
-      → meet isText l c (group l' c' v) ≡ group l c (group l' c' v)
+      → is_text l' ≡ false
+      → meet is_text l c (group l' c' v) ≡ group l c (group l' c' v)
   unfolding meet
-  meet_right l c l' c' v h = go (isText l)
+  meet_right l c l' c' v h = go (is_text l)
     where
       go : (b : Bool)
-          → pick (pick b (isText l') false) (group l (c ⋈ c') v) (group l c (group l' c' v)) ≡ group l c (group l' c' v)
+          → pick (pick b (is_text l') false) (group l (c ⋈ c') v) (group l c (group l' c' v)) ≡ group l c (group l' c' v)
       go true = rw h
       go false = refl
 
   -- Behind what is no text the join goes on.
   pub join_left : (l : Label) (c u v : Forest)
-      → isText l ≡ false
-      → join isText (group l c u) v ≡ group l c (join isText u v)
+      → is_text l ≡ false
+      → join is_text (group l c u) v ≡ group l c (join is_text u v)
   unfolding join
   join_left l c nil v h = meet_left l c v h
   join_left l c (byte b u) v h = refl
@@ -149,9 +149,9 @@ module _ (isText : Label → Bool) where
 
   -- A text at the end and a text at the start become one.
   pub join_texts : (u : Forest) (l : Label) (c : Forest) (l' : Label) (c' v : Forest)
-      → isText l ≡ true
-      → isText l' ≡ true
-      → join isText (u ⋈ group l c nil) (group l' c' v) ≡ u ⋈ group l (c ⋈ c') v
+      → is_text l ≡ true
+      → is_text l' ≡ true
+      → join is_text (u ⋈ group l c nil) (group l' c' v) ≡ u ⋈ group l (c ⋈ c') v
   unfolding join meet ◌⋈◌
   join_texts nil l c l' c' v h h' = rw (h, h')
   join_texts (byte b u) l c l' c' v h h' = ap (byte b) (join_texts u l c l' c' v h h')
@@ -160,7 +160,7 @@ module _ (isText : Label → Bool) where
   join_texts (group k e (group k' e' u)) l c l' c' v h h' = ap (group k e) (join_texts (group k' e' u) l c l' c' v h h')
 
   -- Where no text meets a text, one stands behind the other.
-  pub join_apart : (u v : Forest) → meets isText u v ≡ false → join isText u v ≡ u ⋈ v
+  pub join_apart : (u v : Forest) → meets is_text u v ≡ false → join is_text u v ≡ u ⋈ v
   unfolding join meet ◌⋈◌ ends_in_text begins_with_text meets
   join_apart nil v h = refl
   join_apart (byte b u) v h = ap (byte b) (join_apart u v h)
@@ -181,9 +181,9 @@ module _ (isText : Label → Bool) where
     pub later : Forest
     pub left : u ≡ before ⋈ group label text nil
     pub right : v ≡ group label' text' later
-    pub is_one : isText label ≡ true
-    pub is_other : isText label' ≡ true
-    pub joined : join isText u v ≡ before ⋈ group label (text ⋈ text') later
+    pub is_one : is_text label ≡ true
+    pub is_other : is_text label' ≡ true
+    pub joined : join is_text u v ≡ before ⋈ group label (text ⋈ text') later
 
   met_byte : (b : ℕ) {u v : Forest} → Met u v → Met (byte b u) v
   unfolding join ◌⋈◌
@@ -204,7 +204,7 @@ module _ (isText : Label → Bool) where
       }
 
   met_group : (l : Label) (c : Forest) {u v : Forest}
-      → join isText (group l c u) v ≡ group l c (join isText u v)
+      → join is_text (group l c u) v ≡ group l c (join is_text u v)
       → Met u v
       → Met (group l c u) v
   unfolding ◌⋈◌
@@ -225,16 +225,16 @@ module _ (isText : Label → Bool) where
       }
 
   -- Where a text meets a text, they become one.
-  pub join_met : (u v : Forest) → meets isText u v ≡ true → Met u v
+  pub join_met : (u v : Forest) → meets is_text u v ≡ true → Met u v
   unfolding join meet ◌⋈◌ ends_in_text begins_with_text meets
   join_met nil v h = let z : ◌≡◌ {A = ℕ} 0 1 = cc in absurd (omega arith)
   join_met (byte b u) v h = met_byte b (join_met u v h)
   join_met (group l c nil) nil h =
-      let e = (both (isText l) false h).1 in
+      let e = (both (is_text l) false h).1 in
       let z : ◌≡◌ {A = ℕ} 0 1 = cc in
       absurd (omega arith)
   join_met (group l c nil) (byte b v) h =
-      let e = (both (isText l) false h).1 in
+      let e = (both (is_text l) false h).1 in
       let z : ◌≡◌ {A = ℕ} 0 1 = cc in
       absurd (omega arith)
   join_met (group l c nil) (group l' c' v) h =
@@ -248,8 +248,8 @@ module _ (isText : Label → Bool) where
         left = refl;
         right = refl;
         is_one =
-            (both (isText l) (isText l') h).0;
-        is_other = (both (isText l) (isText l') h).1;
+            (both (is_text l) (is_text l') h).0;
+        is_other = (both (is_text l) (is_text l') h).1;
         joined = ap (λ (x : Bool). pick x
             (group l (c ⋈ c') v) (group l c (group l' c' v))) h;
       }
@@ -258,23 +258,23 @@ module _ (isText : Label → Bool) where
 
   -- Two cases are all: a text meets a text, or not.
   pub data Joining (u v : Forest) : Type 0 where
-    apart : meets isText u v ≡ false → join isText u v ≡ u ⋈ v → Joining u v
-    met : meets isText u v ≡ true → Met u v → Joining u v
+    apart : meets is_text u v ≡ false → join is_text u v ≡ u ⋈ v → Joining u v
+    met : meets is_text u v ≡ true → Met u v → Joining u v
 
   -- One of the two holds.
   pub joining : (u v : Forest) → Joining u v
-  joining u v = go (meets isText u v) refl
+  joining u v = go (meets is_text u v) refl
     where
-      go : (b : Bool) → meets isText u v ≡ b → Joining u v
+      go : (b : Bool) → meets is_text u v ≡ b → Joining u v
       go true e = met e (join_met u v e)
       go false e = apart e (join_apart u v e)
 
   -- Widths add up.
-  pub width_join : (u v : Forest) → width (join isText u v) ≡ width u + width v
+  pub width_join : (u v : Forest) → width (join is_text u v) ≡ width u + width v
   unfolding width
   width_join u v = go (joining u v)
     where
-      go : Joining u v → width (join isText u v) ≡ width u + width v
+      go : Joining u v → width (join is_text u v) ≡ width u + width v
       go (apart e h) = ap width h ∙ width_behind u v
       go (met e h) = omega (
         arith,
@@ -287,14 +287,14 @@ module _ (isText : Label → Bool) where
       )
 
   -- Counts add up where no text meets a text.
-  pub count_apart : (u v : Forest) → meets isText u v ≡ false → count (join isText u v) ≡ count u + count v
+  pub count_apart : (u v : Forest) → meets is_text u v ≡ false → count (join is_text u v) ≡ count u + count v
   count_apart u v e = ap count (join_apart u v e) ∙ count_behind u v
 
   -- Where no text meets a text: the rows of the one, then those of the other, moved behind the one.
   pub records_apart : (u v : Forest) (at n par deep : ℕ)
-      → meets isText u v ≡ false
+      → meets is_text u v ≡ false
       → Foreign par n (count v)
-      → records at n par deep (join isText u v)
+      → records at n par deep (join is_text u v)
       ≡ records at n par deep u ++ moved (width u) (count u) 0 par par (records at n par deep v)
   records_apart u v at n par deep e o =
       ap (records at n par deep) (join_apart u v e) ∙ records_join u v at n par deep
@@ -306,27 +306,27 @@ module _ (isText : Label → Bool) where
   unfoldable pub Bare : Forest → Type 0
   Bare nil = Unit {0}
   Bare (byte b u) = Bare u
-  Bare (group l c u) = (isText l ≡ true → count c ≡ 0) × Bare u
+  Bare (group l c u) = (is_text l ≡ true → count c ≡ 0) × Bare u
 
-  bare_last : (u : Forest) (l : Label) (c v : Forest) → Bare (u ⋈ group l c v) → isText l ≡ true → count c ≡ 0
+  bare_last : (u : Forest) (l : Label) (c v : Forest) → Bare (u ⋈ group l c v) → is_text l ≡ true → count c ≡ 0
   unfolding Bare ◌⋈◌
   bare_last nil l c v h e = h.0 e
   bare_last (byte b u) l c v h e = bare_last u l c v h e
   bare_last (group l' c' u) l c v h e = bare_last u l c v h.1 e
 
   -- Texts are nodes.
-  module _ (nodes : (d : ℕ) → isText (content d) ≡ false) where
-    text_node_lem : (l : Label) → isText l ≡ true → (k : ℕ) × (x : ℕ) × (l ≡ node k x)
+  module _ (nodes : (d : ℕ) → is_text (content d) ≡ false) where
+    text_node_lem : (l : Label) → is_text l ≡ true → (k : ℕ) × (x : ℕ) × (l ≡ node k x)
     text_node_lem (node k x) e = (k, x, refl)
     text_node_lem (content d) e = let h = nodes d in let z : ◌≡◌ {A = ℕ} 0 1 = cc in absurd (omega arith)
 
-    count_text : (l : Label) (c u : Forest) → isText l ≡ true → count (group l c u) ≡ 1 + count c + count u
+    count_text : (l : Label) (c u : Forest) → is_text l ≡ true → count (group l c u) ≡ 1 + count c + count u
     unfolding count
     count_text (node k x) c u e = refl
     count_text (content d) c u e = let h = nodes d in let z : ◌≡◌ {A = ℕ} 0 1 = cc in absurd (omega arith)
 
     -- Where a text meets a text there is one record less.
-    pub count_met : (u v : Forest) → meets isText u v ≡ true → count (join isText u v) + 1 ≡ count u + count v
+    pub count_met : (u v : Forest) → meets is_text u v ≡ true → count (join is_text u v) + 1 ≡ count u + count v
     unfolding count
     count_met u v e = let h = join_met u v e in omega (
       arith,
@@ -345,7 +345,7 @@ module _ (isText : Label → Bool) where
         → count h.text ≡ 0
         → count h.text' ≡ 0
         → Foreign par n (count v)
-        → records at n par deep (join isText u v)
+        → records at n par deep (join is_text u v)
         ≡ last_ends (width u + first_end (records at n par deep v)) (records at n par deep u)
         ++ moved (width u) (count u - 1) 0 par par (drop row_words (records at n par deep v))
     unfolding one other
@@ -353,7 +353,7 @@ module _ (isText : Label → Bool) where
       where
         Goal : Forest → Forest → Type 0
         Goal u' v' =
-            records at n par deep (join isText u v)
+            records at n par deep (join is_text u v)
             ≡ last_ends (width u' + first_end (records at n par deep v')) (records at n par deep u') ++ moved (width u')
             (count u' - 1) 0 par par (drop row_words (records at n par deep v'))
 
@@ -373,11 +373,11 @@ module _ (isText : Label → Bool) where
     -- Where a text meets a text, with no nodes inside them: the rows of the one, the last with the end of the other's
     -- first; then the other's but its first, moved behind.
     pub records_met : (u v : Forest) (at n par deep : ℕ)
-        → meets isText u v ≡ true
+        → meets is_text u v ≡ true
         → Bare u
         → Bare v
         → Foreign par n (count v)
-        → records at n par deep (join isText u v)
+        → records at n par deep (join is_text u v)
         ≡ last_ends (width u + first_end (records at n par deep v)) (records at n par deep u)
         ++ moved (width u) (count u - 1) 0 par par (drop row_words (records at n par deep v))
     unfolding Bare

@@ -9,7 +9,7 @@ use lib.ListN.{length}
 use lib.Dec.{ltb}
 use borrow.Author.Tests.{ltb-true, ltb-false, lt-ltb, le-ltb}
 use Rattle.rules.specs.Forest.{content, Forest, nil, byte, group, ◌⋈◌}
-use Rattle.rules.specs.Rule.{Place, here, mark, fromMark, thisByte, Verdict, fine, differ, Look, Rule, done, stop}
+use Rattle.rules.specs.Rule.{Place, here, mark, from_mark, this_byte, Verdict, fine, differ, Look, Rule, done, stop}
 use Rattle.rules.specs.Rule.{step, refuse, when, look, after, seq, many, wrap, said, marked, paired}
 use Rattle.rules.specs.Parse.{Answer, got, trouble, pick, and_then, behind, byte_at, stands, refusal, judged}
 use Rattle.rules.specs.Parse.{repeat, parse}
@@ -180,8 +180,8 @@ module _ (P : Look → Type 0) (s s' : List ℕ) (k k' lo hi lim : ℕ) (hl : hi
   follow_refusal : (n : ℕ) (w : Place) (e at : ℕ) (x' : Answer) → Follow (refusal n w e at) x'
   follow_refusal n here e at x' = tt
   follow_refusal n mark e at x' = tt
-  follow_refusal n fromMark e at x' = tt
-  follow_refusal n thisByte e at x' = tt
+  follow_refusal n from_mark e at x' = tt
+  follow_refusal n this_byte e at x' = tt
 
   follow_judged : (at q at' q' : ℕ) (v : Verdict) (o : Forest) (z z' : ℕ)
       → z + k' ≡ z' + k

@@ -8,7 +8,7 @@ use lib.ListN.{length}
 use lib.Dec.{ltb}
 use borrow.Author.Tests.{lt-ltb}
 use Rattle.rules.specs.Forest.{content, Forest, nil, byte, group, ◌⋈◌, width}
-use Rattle.rules.specs.Rule.{Place, here, mark, fromMark, thisByte, Verdict, fine, differ, Rule, done, stop, step}
+use Rattle.rules.specs.Rule.{Place, here, mark, from_mark, this_byte, Verdict, fine, differ, Rule, done, stop, step}
 use Rattle.rules.specs.Rule.{refuse, when, look, after, seq, many, wrap, said, marked, paired}
 use Rattle.rules.specs.Parse.{Answer, got, trouble, pick, and_then, behind, byte_at, stands, refusal, judged}
 use Rattle.rules.specs.Parse.{repeat, parse}
@@ -80,8 +80,8 @@ then_behind S R u (trouble n a b c d) h k = tt
 pub then_refusal : (R : Bool → Forest → ℕ → Type 0) (n : ℕ) (w : Place) (e at : ℕ) → Then (refusal n w e at) R
 then_refusal R n here e at = tt
 then_refusal R n mark e at = tt
-then_refusal R n fromMark e at = tt
-then_refusal R n thisByte e at = tt
+then_refusal R n from_mark e at = tt
+then_refusal R n this_byte e at = tt
 
 -- and one under a verdict.
 pub then_judged : (R : Bool → Forest → ℕ → Type 0) (at q : ℕ) (v : Verdict) (x : Answer)
@@ -264,8 +264,8 @@ calm stop = true
 calm step = true
 calm (refuse n here) = true
 calm (refuse n mark) = false
-calm (refuse n fromMark) = false
-calm (refuse n thisByte) = true
+calm (refuse n from_mark) = false
+calm (refuse n this_byte) = true
 calm (when f t u) = pick (calm t) (calm u) false
 calm (look w t u) = pick (calm t) (calm u) false
 calm (after r f t u) = pick (calm r) (pick (calm t) (calm u) false) false
@@ -294,8 +294,8 @@ unmarked s F stop h e e' at = refl
 unmarked s F step h e e' at = refl
 unmarked s F (refuse n here) h e e' at = refl
 unmarked s F (refuse n mark) h e e' at = never h
-unmarked s F (refuse n fromMark) h e e' at = never h
-unmarked s F (refuse n thisByte) h e e' at = refl
+unmarked s F (refuse n from_mark) h e e' at = never h
+unmarked s F (refuse n this_byte) h e e' at = refl
 unmarked s F (when f t u) h e e' at =
     let g = both (calm t) (calm u) h in
     λ i. pick (f (byte_at s at)) (unmarked s F t g.0 e e' at i) (unmarked s F u g.1 e e' at i)

@@ -8,7 +8,7 @@ use lib.ListN.{length}
 use lib.Dec.{eqb, ltb}
 use borrow.Author.Tests.{lt-ltb}
 use Rattle.rules.specs.Forest.{Label, Forest, group, content, ◌⋈◌}
-use Rattle.rules.specs.Rule.{Place, here, mark, fromMark, thisByte, Test, Verdict, fine, differ, Rule, step}
+use Rattle.rules.specs.Rule.{Place, here, mark, from_mark, this_byte, Test, Verdict, fine, differ, Rule, step}
 use Rattle.rules.specs.Parse.{Answer, got, trouble, pick, and_then, behind, byte_at, stands, refusal, judged}
 use Rattle.rules.specs.Parse.{repeat, parse, parse_all}
 use Rattle.rules.proofs.Ends.{top_got}
@@ -45,8 +45,8 @@ module _ (N : ℕ → Type 0) where
   pub refuses_refusal : (n : ℕ) (w : Place) (e at : ℕ) → N n → Refuses N (refusal n w e at)
   refuses_refusal n here e at h = h
   refuses_refusal n mark e at h = h
-  refuses_refusal n fromMark e at h = h
-  refuses_refusal n thisByte e at h = h
+  refuses_refusal n from_mark e at h = h
+  refuses_refusal n this_byte e at h = h
 
   -- A loop whose turns advance, and stay within l, has turns enough: it refuses as a turn does.
   pub refuses_loop : (l : ℕ) (body : ℕ → Answer)

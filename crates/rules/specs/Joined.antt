@@ -4,12 +4,12 @@ use Rattle.rules.specs.Forest.{Label, Forest, nil, byte, group, ◌⋈◌}
 use Rattle.rules.specs.Parse.{pick}
 use Rattle.rules.specs.Record.{row}
 
-module _ (isText : Label → Bool) where
+module _ (is_text : Label → Bool) where
   -- A group in front of a forest; a text in front of a text is one text.
   unfoldable pub meet : Label → Forest → Forest → Forest
   meet l c nil = group l c nil
   meet l c (byte b v) = group l c (byte b v)
-  meet l c (group l' c' v) = pick (pick (isText l) (isText l') false) (group l (c ⋈ c') v) (group l c (group l' c' v))
+  meet l c (group l' c' v) = pick (pick (is_text l) (is_text l') false) (group l (c ⋈ c') v) (group l c (group l' c' v))
 
   -- One forest behind the other.
   unfoldable pub join : Forest → Forest → Forest
@@ -23,7 +23,7 @@ module _ (isText : Label → Bool) where
   unfoldable pub ends_in_text : Forest → Bool
   ends_in_text nil = false
   ends_in_text (byte b u) = ends_in_text u
-  ends_in_text (group l c nil) = isText l
+  ends_in_text (group l c nil) = is_text l
   ends_in_text (group l c (byte b u)) = ends_in_text (byte b u)
   ends_in_text (group l c (group l' c' u)) = ends_in_text (group l' c' u)
 
@@ -31,7 +31,7 @@ module _ (isText : Label → Bool) where
   unfoldable pub begins_with_text : Forest → Bool
   begins_with_text nil = false
   begins_with_text (byte b u) = false
-  begins_with_text (group l c u) = isText l
+  begins_with_text (group l c u) = is_text l
 
   -- Whether a text meets a text.
   unfoldable pub meets : Forest → Forest → Bool

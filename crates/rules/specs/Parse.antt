@@ -1,7 +1,7 @@
 -- The meaning of a grammar: what a rule reads of an input, from a place on.
 use Rattle.std.specs.Prelude.{ℕ, zero, suc, ◌+◌, ◌-◌, ◌*◌, ◌<◌, Bool, true, false, List, [], ◌∷◌, length, get_or, ltb, eqb}
 use Rattle.rules.specs.Forest.{Forest, nil, byte, group, content, ◌⋈◌}
-use Rattle.rules.specs.Rule.{Place, here, mark, fromMark, thisByte, Verdict, fine, differ, Look, bytes, char}
+use Rattle.rules.specs.Rule.{Place, here, mark, from_mark, this_byte, Verdict, fine, differ, Look, bytes, char}
 use Rattle.rules.specs.Rule.{Rule, done, stop, step}
 use Rattle.rules.specs.Rule.{refuse, when, look, after, seq, many, wrap, said, marked, paired}
 
@@ -78,8 +78,8 @@ stands s (char f) at = f (code_at s at)
 abbrev pub refusal : ℕ → Place → (e at : ℕ) → Answer
 refusal n here e at = trouble n at at 0 0
 refusal n mark e at = trouble n e e 0 0
-refusal n fromMark e at = trouble n e at 0 0
-refusal n thisByte e at = trouble n at (at + 1) 0 0
+refusal n from_mark e at = trouble n e at 0 0
+refusal n this_byte e at = trouble n at (at + 1) 0 0
 
 -- An answer under a verdict on two tags that begin at `at` and at `q`.
 abbrev pub judged : (at q : ℕ) → Verdict → Answer → Answer

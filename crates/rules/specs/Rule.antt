@@ -8,7 +8,7 @@ Test = ℕ → Bool
 
 -- Where a refusal points: here; at the mark; from the mark up to here; from here to the next byte.
 pub data Place : Type 0 where
-  here mark fromMark thisByte : Place
+  here mark from_mark this_byte : Place
 
 -- What two tags say of each other: they belong together, or a refusal's number with a place in each, start and end,
 -- counted from that tag's first byte.

@@ -9,7 +9,7 @@ use lib.ListN.{length}
 use lib.Dec.{eqb, ltb}
 use borrow.Author.Tests.{ltb-true, eqb-true}
 use Rattle.rules.specs.Forest.{node, Forest, nil, byte, ◌⋈◌, direct, inside}
-use Rattle.rules.specs.Rule.{Rule, done, refuse, many, fromMark, ◌⨾◌}
+use Rattle.rules.specs.Rule.{Rule, done, refuse, many, from_mark, ◌⨾◌}
 use Rattle.rules.specs.Parse.{Answer, got, trouble, pick, behind, byte_at, repeat, parse, parsed, read_at}
 use Rattle.rules.proofs.Run.{goes, both_read}
 use Rattle.rules.proofs.Forests.{behind_nil, behind_assoc}
@@ -154,10 +154,10 @@ module _ (s : List ℕ) where
   -- So is a part behind a dot.
   pub dotted_read : (at : ℕ) {u : Forest} {p : ℕ} → read_at s dotted_part at ≡ got true u p → OnePart at p u
   unfolding dotted_part parse
-  dotted_read at {u} {p} h = go (said_read s (suc (length s)) _ other_part (refuse 10 fromMark) done at at h)
+  dotted_read at {u} {p} h = go (said_read s (suc (length s)) _ other_part (refuse 10 from_mark) done at at h)
     where
       go : SaidOut (λ o. has "-" (direct (inside o)))
-          (parsed s other_part at at) (parsed s (refuse 10 fromMark) at) (parsed s done at) true u p
+          (parsed s other_part at at) (parsed s (refuse 10 from_mark) at) (parsed s done at) true u p
           → OnePart at p u
       go (so o₁ p₁ o₂ x c y w) = trouble_got y
       go (otherwise o₁ p₁ o₂ x c y w) =

@@ -11,7 +11,7 @@ use lib.ListN.{length, get_or, get_or-eq_default}
 use lib.Dec.{eqb}
 use borrow.Author.Tests.{eq-eqb, ne_eqb, eqb-true, lt-ltb}
 use Rattle.rules.specs.Forest.{node, Forest, nil, byte, group, ◌⋈◌}
-use Rattle.rules.specs.Rule.{Rule, stop, step, refuse, when, many, marked, here, mark, fromMark, ◌⨾◌, ◌⇒◌∣◌}
+use Rattle.rules.specs.Rule.{Rule, stop, step, refuse, when, many, marked, here, mark, from_mark, ◌⨾◌, ◌⇒◌∣◌}
 use Rattle.rules.specs.Parse.{Answer, got, trouble, pick, and_then, byte_at, parse, parsed, read_at}
 use Rattle.rules.proofs.Run.{never}
 use Rattle.jsx.specs.Refusal.{unexpected, quoted_never_closed, string_never_closed}
@@ -41,7 +41,7 @@ either n t = when (is "'") ⇒ between n t (code "'") ∣ between n t (code "\""
 
 -- Inside a string a backslash is refused where it stands, a line end from the quote on.
 abbrev pub in_string : Rule
-in_string = when (is "\\") ⇒ refuse unexpected here ∣ when line_end ⇒ refuse unexpected fromMark ∣ step
+in_string = when (is "\\") ⇒ refuse unexpected here ∣ when line_end ⇒ refuse unexpected from_mark ∣ step
 
 module _ (s : List ℕ) (F e p n : ℕ) (t : Rule) (q : ℕ) where
   turn_end : end (byte_at s p) ≡ true → parse s F (turn n t q) e p ≡ trouble n e e 0 0

@@ -12,7 +12,7 @@ use borrow.Author.Rules.{rules}
 use borrow.Author.Tests.{eq-eqb, ne_eqb}
 use types.Run.{OneOf}
 use Rattle.rules.specs.Forest.{Forest, nil, byte}
-use Rattle.rules.specs.Rule.{Test, Rule, done, stop, step, refuse, when, after, here, thisByte, ◌⨾◌}
+use Rattle.rules.specs.Rule.{Test, Rule, done, stop, step, refuse, when, after, here, this_byte, ◌⨾◌}
 use Rattle.rules.specs.Parse.{Answer, got, trouble, pick, behind, byte_at, opens, parse, read_at}
 use Rattle.rules.proofs.Run.{both}
 use Rattle.rules.proofs.Flat.{seq_assoc}
@@ -371,7 +371,7 @@ module _ {s : List ℕ} {at : ℕ} {r : Ans} (l : Leaf nothing r s blanks at 0) 
     braces_comma k ea ec =
         rw (ea, ec)
         (Lex.leaf_stop nothing s shut_braces at 1 refl
-        (chosen l h y (is ",") (refuse comma_in_braces thisByte) (expect "}") (eq-eqb b (code ",") k)))
+        (chosen l h y (is ",") (refuse comma_in_braces this_byte) (expect "}") (eq-eqb b (code ",") k)))
 
     -- None is: `}` is there or is not.
     pub braces_end : {r₂ : Ans} → (b ≡ code "," → ⊥) → Leaf nothing r₂ s (expect_byte (code "}")) q 1
@@ -380,7 +380,7 @@ module _ {s : List ℕ} {at : ℕ} {r : Ans} (l : Leaf nothing r s blanks at 0) 
     braces_end k l₂ =
         let far = l.far _ _ h in
         Lex.leaf_behind nothing shut_braces at 1 _ (λ a o. refl) l₂
-        (chosen l h y (is ",") (refuse comma_in_braces thisByte) (expect "}") (ne_eqb b (code ",") k))
+        (chosen l h y (is ",") (refuse comma_in_braces this_byte) (expect "}") (ne_eqb b (code ",") k))
         (omega arith)
 
 pub ruleset braces_steps = (rules, braces_stops, braces_comma, braces_end)

@@ -4,7 +4,7 @@
 ghost use Rattle.std.specs.Prelude.{◌≡◌, ◌<◌, length};
 ghost use Rattle.rules.specs.Parse.{byte_at};
 ghost use Rattle.jsx.specs.Byte.{◌‥◌};
-ghost use Rattle.jsx.specs.Utf8.{utf8 as utf8Rule};
+ghost use Rattle.jsx.specs.Utf8.{utf8 as utf8_rule};
 ghost use Rattle.lex.specs.Contract.{Leaf, nothing};
 ghost use Rattle.utf8.specs.Lead.{lead_of, Ended};
 
@@ -84,7 +84,7 @@ fn sequence(s: &[u8], p: usize, b: u8) -> usize
 
 // The length of an input that is UTF-8, and the number 0; or refusal 2 where no good sequence begins.
 pub fn utf8(s: &[u8]) -> Ans
-    ensures { Leaf nothing result s.now utf8Rule 0 0 }
+    ensures { Leaf nothing result s.now utf8_rule 0 0 }
 {
     let mut p = 0;
     while p < s.len() {
