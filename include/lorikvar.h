@@ -203,28 +203,28 @@ enum lorikvar_word {
 
 /*
  * Checks a stage. Returns 0 with the count of its records in values[0], or a refusal's number with its places: one of
- * enum lorikvar_refusal, never 15. All four values are always written. Promise: SaysOfCheck stageRule.
+ * enum lorikvar_refusal, never 15. All four values are always written. Promise: SaysOfCheck stage_rule.
  */
 uint32_t lorikvar_check_stage(const uint8_t *input, size_t length, size_t values[LORIKVAR_VALUES]);
 
-/* Checks a run, likewise; never 13. The empty run is good and has no record. Promise: SaysOfCheck runRule. */
+/* Checks a run, likewise; never 13. The empty run is good and has no record. Promise: SaysOfCheck run_rule. */
 uint32_t lorikvar_check_run(const uint8_t *input, size_t length, size_t values[LORIKVAR_VALUES]);
 
 /*
  * Reads a stage into a table. Returns what the check returns, or 15 where that accepts and the table holds fewer
  * records. Where it returns 0, the records stand at the table's front, and the words behind them are as they were;
- * else no word of the table is written. All four values are always written. Promise: SaysOfRead stageRule.
+ * else no word of the table is written. All four values are always written. Promise: SaysOfRead stage_rule.
  */
 uint32_t lorikvar_read_stage(const uint8_t *input, size_t length, uint32_t *table, size_t words,
                              size_t values[LORIKVAR_VALUES]);
 
-/* Reads a run into a table, likewise. Promise: SaysOfRead runRule. */
+/* Reads a run into a table, likewise. Promise: SaysOfRead run_rule. */
 uint32_t lorikvar_read_run(const uint8_t *input, size_t length, uint32_t *table, size_t words,
                            size_t values[LORIKVAR_VALUES]);
 
 /*
  * The bytes from start to end. Returns true with part = {start, end}, where start <= end <= length; else false with
- * part = {0, 0}. No byte of the input is read. Promise: SaysPart (spanPart ..).
+ * part = {0, 0}. No byte of the input is read. Promise: SaysPart (span_part ..).
  */
 bool lorikvar_span_bytes(const uint8_t *input, size_t length, size_t start, size_t end, size_t part[LORIKVAR_PART]);
 
@@ -232,7 +232,7 @@ bool lorikvar_span_bytes(const uint8_t *input, size_t length, size_t start, size
  * The bytes of a record, by its number. `count` is what the read gave; the table may be any words, read or not.
  * Returns true with part = {start, end} of the record, where number < count, the table holds such a record, and its
  * span is in the input; else false with part = {0, 0}. No byte of the input is read.
- * Promise: SaysPart (recordPart ..).
+ * Promise: SaysPart (record_part ..).
  */
 bool lorikvar_record_bytes(const uint8_t *input, size_t length, const uint32_t *table, size_t words, size_t count,
                            size_t number, size_t part[LORIKVAR_PART]);

@@ -16,7 +16,7 @@ fn file(name: &str) -> String {
     fs::read_to_string(&path).unwrap_or_else(|error| panic!("{}: {error}", path.display()))
 }
 
-/// `namesDiffer` and `NamesDiffer` as `NAMES_DIFFER`.
+/// `names_differ` and `NamesDiffer` as `NAMES_DIFFER`.
 fn upper(name: &str) -> String {
     let mut text = String::new();
     for letter in name.chars() {
@@ -47,8 +47,8 @@ fn of_header(prefix: &str) -> Names {
 /// The lines `name = NUMBER` of a page of definitions. One number is another page's, and is looked up there.
 fn of_definition(page: &str) -> Names {
     let text = file(page).replace(
-        "rules.endOfInput",
-        &number_of("endOfInput", "crates/rules/specs/Parse.antt"),
+        "rules.end_of_input",
+        &number_of("end_of_input", "crates/rules/specs/Parse.antt"),
     );
     let pairs = text.lines().filter_map(|line| line.split_once(" = "));
     pairs
@@ -120,7 +120,7 @@ fn limits_are_the_definition_s() {
     assert_eq!(MOST_DEPTH, number_behind("; depth = ", reading));
     assert_eq!(
         ROW_WORDS,
-        number_behind("rowWords = ", "crates/rules/specs/Record.antt")
+        number_behind("row_words = ", "crates/rules/specs/Record.antt")
     );
     assert_eq!(
         NO_PARENT as usize,

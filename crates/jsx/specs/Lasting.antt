@@ -2,10 +2,9 @@
 -- proves each of them.
 use Rattle.std.specs.Prelude.{ℕ, ◌+◌, ◌/◌, ◌%◌, ◌≤◌, ◌<◌, ◌≡◌, List, [], ◌∷◌, ◌++◌, length, eqb}
 use Rattle.rules.specs.Parse.{pick}
-use Rattle.jsx.specs.Refusal.{cut_short, unknown_kind}
 use Rattle.jsx.specs.Byte.{bytes_of}
 use Rattle.jsx.specs.Reading.{Limits, standard}
-use Rattle.jsx.specs.Settings.{Settled, set, unset, held, depth_kind, length_kind, skipped_from, settled_from}
+use Rattle.jsx.specs.Settings.{cut_short, unknown_kind, Settled, set, unset, held, depth_kind, length_kind, skipped_from, settled_from}
 use Rattle.jsx.specs.Settings.{settings, capped}
 
 -- ---- D2: "A settings store is a list of records, each preceded by 53 54 hex: a kind byte, a length byte, that many

@@ -73,21 +73,3 @@ comment_never_closed = 17
 -- D2: "18 an open string inside braces"
 abbrev pub string_never_closed : ℕ
 string_never_closed = 18
-
--- The refusals of a settings store. No reading gives one of them.
-
--- D2: "31 mark": a byte of the mark is another one
-abbrev pub wrong_mark : ℕ
-wrong_mark = 31
-
--- D2: "32 cut short"
-abbrev pub cut_short : ℕ
-cut_short = 32
-
--- D2: "An unknown kind .. below 128 it is 33"
-abbrev pub unknown_kind : ℕ
-unknown_kind = 33
-
--- D2: "34 bad length or number"
-abbrev pub bad_setting : ℕ
-bad_setting = 34

@@ -3,9 +3,28 @@ use Prim.Native.Char.{code}
 use Rattle.std.specs.Prelude.{ℕ, zero, suc, ◌+◌, ◌*◌, Bool, true, false, List, [], ◌∷◌, length, leb, ltb, eqb}
 use Rattle.rules.specs.Rule.{Test}
 use Rattle.rules.specs.Parse.{pick, byte_at}
-use Rattle.jsx.specs.Refusal.{wrong_mark, cut_short, unknown_kind, bad_setting}
 use Rattle.jsx.specs.Byte.{end, none, ◌‥◌, ◌or◌}
 use Rattle.jsx.specs.Reading.{Limits, standard}
+
+-- ---- the refusals of a store, none of which a reading gives
+
+-- D2: "31 mark": a byte of the mark is another one
+abbrev pub wrong_mark : ℕ
+wrong_mark = 31
+
+-- D2: "32 cut short"
+abbrev pub cut_short : ℕ
+cut_short = 32
+
+-- D2: "An unknown kind .. below 128 it is 33"
+abbrev pub unknown_kind : ℕ
+unknown_kind = 33
+
+-- D2: "34 bad length or number"
+abbrev pub bad_setting : ℕ
+bad_setting = 34
+
+-- ---- answers
 
 -- What a store is answered: the limits that it sets, or a refusal's number and place.
 pub data Settled : Type 0 where
