@@ -157,7 +157,7 @@ uint32_t lorikvar_read_stage(const uint8_t *input, size_t length, uint32_t *tabl
 uint32_t lorikvar_read_run(const uint8_t *input, size_t length, uint32_t *table, size_t words,
                            size_t values[LORIKVAR_VALUES])
 {
-    volatile uint8_t more[WRONG == 30 ? 40000 : 1]; /* more stack than is said */
+    volatile uint8_t more[WRONG == 30 ? 100000 : 1]; /* more stack than is said */
     uint32_t number;
     more[0] = 0;
     number = said(right_read_run(input, length, table, words, values), input, length, values);
