@@ -33,8 +33,8 @@ pub record SaysOfRead (reading : ℕ → Rule) (s t t' : List ℕ) (r : ℕ) (va
   pub right : Reads reading s t reply t'
   pub says : Says reply r values
 
--- What is said of a part p of the input: whether it was found, and its start and end; D: "For a record number or span out
--- of range it is the empty part at the input's start, and a yes or no tells which."
+-- What is said of a part p of the input: whether it was found, and its start and end; D: "For a record number or span
+-- out of range it is the empty part at the input's start, and a yes or no tells which."
 pub record SaysPart (p : Part) (r : Bool) (part : List ℕ) : Type 0 where
   pub tells : r ≡ p.found
   pub is : part ≡ p.start ∷ p.end ∷ []

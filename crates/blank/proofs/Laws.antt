@@ -134,7 +134,8 @@ goes_line = refl
 
 module _ (s : List ℕ) (p : ℕ) where
   -- Two bytes, of which only the first stands here; two that stand here.
-  second_not : (a b : ℕ) → eqb (byte_at s p) a ≡ true → eqb (byte_at s (p + 1)) b ≡ false → opens s (a ∷ b ∷ []) p ≡ false
+  second_not : (a b : ℕ) → eqb (byte_at s p) a ≡ true → eqb (byte_at s (p + 1)) b ≡ false
+      → opens s (a ∷ b ∷ []) p ≡ false
   second_not a b h k = Lex.opens_yes s (b ∷ []) p a h ∙ Lex.opens_one s (p + 1) b ∙ k
 
   both_here : (a b : ℕ) → eqb (byte_at s p) a ≡ true → eqb (byte_at s (p + 1)) b ≡ true → opens s (a ∷ b ∷ []) p ≡ true

@@ -235,7 +235,8 @@ module _ {s : List ℕ} {c : ℕ} {r : Ans} (l : Leaf nothing r s close_open c 2
       bare_inside = flat_byte (out_of (read_at s close_open c)) (byte_at s p) open_flat
 
       bare_whole : read_at s close_tag c
-          ≡ got true (group (node Kind.closing_tag 0) (out_of (read_at s close_open c) ⋈ byte (byte_at s p) nil) nil) (p + 1)
+          ≡ got true (group (node Kind.closing_tag 0) (out_of (read_at s close_open c) ⋈ byte (byte_at s p) nil) nil)
+          (p + 1)
       bare_whole = close_bare s c open_got x (Lex.before_end s p (code ">") x (lit< tt))
 
       bare_wide : p + 1 ≡ c + width (out_of (read_at s close_open c) ⋈ byte (byte_at s p) nil)

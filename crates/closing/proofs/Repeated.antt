@@ -99,7 +99,8 @@ module _ (s : List ℕ) (p : ℕ) where
 
 -- What is in the node: `<`, `/`, the name and, at q, `>`.
 abbrev pub in_closed : List ℕ → (c q : ℕ) → Forest → Forest
-in_closed s c q w = byte (byte_at s c) (byte (byte_at s (c + 1)) (group (one_name (direct w)) w (byte (byte_at s q) nil)))
+in_closed s c q w = byte (byte_at s c) (byte (byte_at s (c + 1))
+    (group (one_name (direct w)) w (byte (byte_at s q) nil)))
 
 abbrev pub closed_forest : List ℕ → (c q : ℕ) → Forest → Forest
 closed_forest s c q w = group (node Kind.closing_tag 0) (in_closed s c q w) nil
@@ -228,7 +229,8 @@ moves_part = refl
 
 -- A name that was read with one record is one part.
 pub one_by_count : {s : List ℕ} {a e : ℕ} → Named s a e → name_count s a ≡ 1
-    → (read_at s part a ≡ got true (out_of (read_at s part a)) e) × (name_at s a ≡ one_part_of (out_of (read_at s part a)))
+    → (read_at s part a ≡ got true (out_of (read_at s part a)) e)
+    × (name_at s a ≡ one_part_of (out_of (read_at s part a)))
 unfolding count
 one_by_count {s} {a} {e} n z =
     go (is ":" (byte_at s q)) (is "." (byte_at s q)) (sym (element_name_once s (suc (length s)) 0 a h k) ∙ n.read)

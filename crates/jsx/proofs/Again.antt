@@ -109,7 +109,8 @@ module _ (s : List ℕ) (F e at : ℕ) where
         (pick (is "[" (byte_at s q)) (behind o (parse s F n.bracket e q))
         (pick (is "(" (byte_at s q)) (behind o (parse s F n.call e q)) (got false nil at)))
     unfolding postfix_turn
-    postfix_turn_once n = choice_behind (is ".") _ _ (choice_behind (is "[") _ _ (choice_behind (is "(") _ _ stops_here))
+    postfix_turn_once n = choice_behind (is ".") _ _
+        (choice_behind (is "[") _ _ (choice_behind (is "(") _ _ stops_here))
 
     -- Behind blanks, `*`, `+`, `-`, `&` or `|` begins an operator with one more unary; else the loop stops.
     pub flat_turn_once : (n : Inner) → parse s F (flat_turn n) e at ≡

@@ -140,7 +140,8 @@ unfolding whole_language
 prints = refl
 
 -- A25: unused places print as 0 0.
-pub prints_refusals : (output (bytes_of "<v></w>") ≡ bytes_of "no 7 1 2 5 6\n") × (output [] ≡ bytes_of "no 4 0 0 0 0\n")
+pub prints_refusals : (output (bytes_of "<v></w>") ≡ bytes_of "no 7 1 2 5 6\n")
+    × (output [] ≡ bytes_of "no 4 0 0 0 0\n")
 unfolding whole_language
 prints_refusals = (refl, refl)
 

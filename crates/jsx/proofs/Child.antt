@@ -125,7 +125,8 @@ module _ (s : List ℕ) (F e : ℕ) where
 
   text_of : (at : ℕ) {a : Bool} {o : Forest} {p : ℕ}
       → parse s F text e at ≡ got a o p
-      → (c : Forest) × (a ≡ true) × (o ≡ text_node (byte (byte_at s at) c) nil) × (repeat tbody F (at + 1) ≡ got true c p)
+      → (c : Forest) × (a ≡ true) × (o ≡ text_node (byte (byte_at s at) c) nil)
+      × (repeat tbody F (at + 1) ≡ got true c p)
   unfolding parse text ◌⋈◌
   text_of at {a} {o} {p} h = go (ltb at (length s)) h
     where
@@ -142,7 +143,8 @@ module _ (s : List ℕ) (F e : ℕ) where
       two (trouble n x y z w) r g k = trouble_got k
 
       go : (b : Bool)
-          → and_then (and_then (pick b (got true (byte (byte_at s at) nil) (at + 1)) (trouble 4 at at 0 0)) (λ a o p. pick
+          → and_then (and_then (pick b (got true (byte (byte_at s at) nil) (at + 1)) (trouble 4 at at 0 0))
+          (λ a o p. pick
           a (behind o (repeat tbody F p)) (got false o p))) (λ a o p. got a (text_node o nil) p) ≡ got a o p
           → (c : Forest) × (a ≡ true) × (o ≡ text_node (byte (byte_at s at) c) nil)
           × (repeat tbody F (at + 1) ≡ got true c p)

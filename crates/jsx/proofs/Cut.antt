@@ -237,7 +237,8 @@ module _ (x y : List ℕ) where
   unfolding turning
   turn_back at {o} {p} i t h =
       let n = length-append x y in
-      let l = (reach (λ d. done) any_byte any_node (x ++ y) (suc (length (x ++ y))) (flow_turn (λ d. done)) 0 at true o p h
+      let l = (reach (λ d. done) any_byte any_node (x ++ y) (suc (length (x ++ y)))
+      (flow_turn (λ d. done)) 0 at true o p h
       (length x) t).0 in
       let g = local_got (Lacks any_byte) (x ++ y) x 0 0 0 (length x) (suc (length x)) (omega arith)
       (before (x ++ y) x (length x) (λ q r. sym (byte_in x y q r)) (omega arith) (omega arith) any_byte (λ j e. refl)

@@ -20,7 +20,8 @@ use Rattle.rules.proofs.Deeper.{deeper_refuse, deeper_done, deeper_stop, deeper_
 use Rattle.rules.proofs.Deeper.{deeper_over, deeper_seq, deeper_many, deeper_wrap, deeper_marked, deeper_paired, Deep}
 use Rattle.rules.proofs.Deeper.{deep, deeper_got}
 use Rattle.jsx.specs.Kind as Kind
-use Rattle.jsx.specs.Refusal.{too_long, names_differ, fragment_closed_by_name, element_closed_by_fragment, table_too_small}
+use Rattle.jsx.specs.Refusal.{too_long, names_differ, fragment_closed_by_name, element_closed_by_fragment}
+use Rattle.jsx.specs.Refusal.{table_too_small}
 use Rattle.jsx.specs.Byte.{need, expect}
 use Rattle.jsx.specs.Utf8.{utf8}
 use Rattle.jsx.specs.Blank.{comment_turn, comment, line_turn, line_comment, blank, blanks, pass}
@@ -282,7 +283,8 @@ module _ (k : ℕ) (n n' : Inner) (h : InnerDeeper k n n') where
   element_label o = ap (node Kind.element) (paired_deepen k o)
 
   level_deeper : (d : ℕ) → InnerDeeper k (level d n) (level (k + d) n')
-  unfolding level element_in fragment_in named_in open_fragment child_braces_in empty_braces value_braces_in paren_in bracket_in
+  unfolding level element_in fragment_in named_in open_fragment child_braces_in empty_braces value_braces_in paren_in
+      bracket_in
       call_in argument_turn prefix_in choice_in deepen_label
   level_deeper d = record {
     element = search (deeper_rules, pair_deeper, open_tag_deeper, element_label) depth 8;
@@ -346,7 +348,11 @@ pub record Deepens (reading : ℕ → Rule) : Type 0 where
 -- Runs do,
 pub run_deepens : Deepens run
 run_deepens =
-    record { deeper = run_deeper; numbered = λ d s. never_stuck content_of closer well_paired (run_flow d {k = near}) s }
+    record {
+      deeper = run_deeper;
+      numbered = λ d s. never_stuck content_of closer well_paired
+          (run_flow d {k = near}) s;
+    }
 
 -- and stages.
 pub stage_deepens : Deepens stage

@@ -123,13 +123,18 @@ row_depth u small j h = by (depth_known u 0 missing 0 j (omega arith) (omega ari
 
     by : Under 0 missing 0 j (parent_of 0 missing j u) (depth_of 0 0 j u) u
         → RowOf u 0 0 missing 0 j j
-        → (parent_of 0 missing j u < count u → RowOf u 0 0 missing 0 (parent_of 0 missing j u) (parent_of 0 missing j u))
+        → (parent_of 0 missing j u < count u
+        → RowOf u 0 0 missing 0 (parent_of 0 missing j u) (parent_of 0 missing j u))
         → get_or (rows_of u) (row_words * j + 6) 0
         ≡ pick (eqb (get_or (rows_of u) (row_words * j + 3) 0) missing) 0
         (get_or (rows_of u) (row_words * get_or (rows_of u) (row_words * j + 3) 0 + 6) 0 + 1)
     by (outermost f g) r p = rw (eq-eqb _ missing (r.parent_word ∙ f)) (r.depth_word ∙ g)
     by (inner a b g) r p =
-        rw (ne_eqb (get_or (rows_of u) (row_words * j + 3) 0) missing (λ z. omega (arith, r.parent_word)), r.parent_word)
+        rw (
+          ne_eqb (get_or (rows_of u) (row_words * j + 3) 0) missing
+              (λ z. omega (arith, r.parent_word)),
+          r.parent_word,
+        )
         (r.depth_word ∙ g ∙ ap (λ (n : ℕ). n + 1) (sym (p (omega arith)).depth_word))
 
 depths_count_ancestors : {reading : ℕ → Rule} → Readable reading → Proper reading → DepthsCountAncestors reading

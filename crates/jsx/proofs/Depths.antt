@@ -35,6 +35,7 @@ depth_cases_hold = refl
 abbrev deepest : String
 deepest = copies 63 "<a b=" & "<a b:c/>" & copies 63 "/>"
 
-pub greatest_depth : table_word (read standard stage (bytes_of deepest) (replicate (row_words * 322) 0)).table 321 6 ≡ 193
+pub greatest_depth : table_word (read standard stage (bytes_of deepest) (replicate (row_words * 322) 0)).table 321 6
+    ≡ 193
 unfolding whole_language ◌&◌ copies table_word
 greatest_depth = refl

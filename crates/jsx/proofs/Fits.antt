@@ -405,7 +405,8 @@ module _ (n : Inner) (h : InnerKeeps n) where
   named_in_keeps d kn ky = f_wrap (f_paired open_tag_takes (f_down 1 (children_keep 5 5)) close_tag_pays)
 
   level_keeps : (d : ℕ) → InnerKeeps (level d n)
-  unfolding level element_in child_braces_in value_braces_in empty_value_braces paren_in bracket_in call_in argument_turn prefix_in
+  unfolding level element_in child_braces_in value_braces_in empty_value_braces paren_in bracket_in call_in
+      argument_turn prefix_in
       choice_in
   level_keeps d = record {
     element = λ kn ky. f_after (fragment_in_keeps d kn ky) (named_in_keeps d kn ky);
@@ -634,7 +635,8 @@ module _ (s : List ℕ) (F e : ℕ) where
           omega (arith, thrifty opens_part s F {k = 0} (record { left = 1; fits = one_part_keeps }) e at k)
 
 -- A run has at most as many records as the input has bytes.
-pub run_few : (d : ℕ) (s : List ℕ) {a : Bool} {u : Forest} {p : ℕ} → parse_all (run d) s ≡ got a u p → count u ≤ length s
+pub run_few : (d : ℕ) (s : List ℕ) {a : Bool} {u : Forest} {p : ℕ} → parse_all (run d) s ≡ got a u p
+    → count u ≤ length s
 run_few d s k = one_a_byte opens_part (kept (run_keeps d)) s k
 
 -- So has a stage.

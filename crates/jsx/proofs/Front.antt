@@ -245,7 +245,8 @@ module _ (x y : List ℕ) (px : Plain x) (Fx Fz e d : ℕ) (big : length (x ++ y
           ∙ ap (behind (byte (byte_at (x ++ y) (length x)) nil)) q₂) Fz (omega arith))) (omega arith)
           ∙ ap (behind
           (group (node Kind.text 0) (byte (byte_at (x ++ y) at) (c ⋈ byte (byte_at (x ++ y) (length x)) c')) nil)) r₂
-          ∙ ap (λ (n : ℕ). got true (group (node Kind.text 0) (byte n (c ⋈ byte (byte_at (x ++ y) (length x)) c')) v') q)
+          ∙ ap (λ (n : ℕ). got true (group (node Kind.text 0)
+          (byte n (c ⋈ byte (byte_at (x ++ y) (length x)) c')) v') q)
           (sym be)
           ∙ ap (λ (n : Forest). got true (meet text_label (node Kind.text 0) (byte (byte_at x at) c) n) q) (sym ve)
 

@@ -52,7 +52,8 @@ module _ (n : Inner) (h : InnerGoes n) where
   container_goes = rw expression_goes
 
   level_goes : (d : ℕ) → InnerGoes (level d n)
-  unfolding goes level element_in fragment_in named_in child_braces_in empty_braces value_braces_in empty_value_braces paren_in
+  unfolding goes level element_in fragment_in named_in child_braces_in empty_braces value_braces_in empty_value_braces
+      paren_in
       bracket_in call_in prefix_in choice_in pass blanks expect need
   level_goes d = record {
     element = refl;

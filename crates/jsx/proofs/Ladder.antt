@@ -86,7 +86,8 @@ apart_back f g h b e = go (f b) (h b)
     go false k = refl
 
 -- The four operators the other way round.
-reversed : (s : List ℕ) (F e : ℕ) → Shuffle blanks s F e operators (or_or_op ∷ and_and_op ∷ plus_minus_op ∷ times_op ∷ [])
+reversed : (s : List ℕ) (F e : ℕ) → Shuffle blanks s F e operators
+    (or_or_op ∷ and_and_op ∷ plus_minus_op ∷ times_op ∷ [])
 reversed s F e =
     also (keep (keep (swap (is_apart "&" (is "|") refl))))
     (also (keep (swap (apart_back (is "|") (is "+" or is "-") (is_apart "|" (is "+" or is "-") refl))))
@@ -96,7 +97,8 @@ reversed s F e =
     (keep (keep (swap (is_apart "*" (is "+" or is "-") refl))))))))
 
 -- The loop may try the loosest operator first.
-pub flat_loose : (n : Inner) (s : List ℕ) (F e at : ℕ) → parse s F (flat_either n) e at ≡ parse s F (loose_either n) e at
+pub flat_loose : (n : Inner) (s : List ℕ) (F e at : ℕ)
+    → parse s F (flat_either n) e at ≡ parse s F (loose_either n) e at
 unfolding flat_either flat_turn loose_either loose_turn
 flat_loose n s F e at = flat_shuffled blanks s F e (reversed s F e) (unary n) at
 

@@ -10,7 +10,8 @@ use lib.Seq.{drop-append_seam}
 use borrow.Author.Tests.{leb-true, lt-ltb, le-ltb, le-leb, ne_eqb}
 use Rattle.rules.specs.Parse.{pick}
 use Rattle.jsx.specs.Reading.{Limits, standard}
-use Rattle.jsx.specs.Settings.{wrong_mark, cut_short, unknown_kind, bad_setting, Settled, set, unset, held, kind_of, size_of, marks_other, is_cut, depth_kind, depth_in}
+use Rattle.jsx.specs.Settings.{wrong_mark, cut_short, unknown_kind, bad_setting, Settled, set, unset, held, kind_of}
+use Rattle.jsx.specs.Settings.{size_of, marks_other, is_cut, depth_kind, depth_in}
 use Rattle.jsx.specs.Settings.{good_depth, depth_set, length_kind, length_in, good_length, length_set, skipped_from}
 use Rattle.jsx.specs.Settings.{judged, on_set, settled_from, settings, capped}
 use Rattle.jsx.specs.Lasting.{entry, depth_entry, low_first, length_entry, Within, LimitsWithin, LimitsKept}

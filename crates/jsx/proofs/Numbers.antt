@@ -64,12 +64,14 @@ unfolding NumberedBy pass
 pass_fine = (tt, blanks_fine)
 
 element_name_fine : Fine element_name
-unfolding numbered element_name namespaced member one_part other_part object dotted dotted_part part blanks blank comment
+unfolding numbered element_name namespaced member one_part other_part object dotted dotted_part part blanks blank
+    comment
     comment_turn line_comment line_turn expect need
 element_name_fine = computed ok element_name refl
 
 attribute_name_fine : Fine attribute_name
-unfolding numbered attribute_name namespaced other_part part blanks blank comment comment_turn line_comment line_turn expect
+unfolding numbered attribute_name namespaced other_part part blanks blank comment comment_turn line_comment line_turn
+    expect
     need
 attribute_name_fine = computed ok attribute_name refl
 
@@ -218,7 +220,8 @@ module _ (n : Inner) (h : InnerFine n) where
       pass_fine & tt & conditional_fine & (blanks_fine & (pass_fine & conditional_fine) & tt) & expect_fine ")"
 
   level_fine : (d : ℕ) → InnerFine (level d n)
-  unfolding NumberedBy level child_braces_in empty_braces value_braces_in empty_value_braces paren_in bracket_in prefix_in
+  unfolding NumberedBy level child_braces_in empty_braces value_braces_in empty_value_braces paren_in bracket_in
+      prefix_in
       choice_in
   level_fine d = record {
     element = element_fine d;

@@ -11,7 +11,8 @@ use borrow.Author.Tests.{ltb-true, ltb-false, eqb-true, le-ltb}
 use Rattle.rules.specs.Parse.{pick, byte_at}
 use Rattle.rules.proofs.Agree.{byte_in, byte_beyond}
 use Rattle.jsx.specs.Reading.{Limits}
-use Rattle.jsx.specs.Settings.{wrong_mark, cut_short, unknown_kind, Settled, set, unset, other_than, kind_of, size_of, marks_other, is_cut, depth_kind}
+use Rattle.jsx.specs.Settings.{wrong_mark, cut_short, unknown_kind, Settled, set, unset, other_than, kind_of, size_of}
+use Rattle.jsx.specs.Settings.{marks_other, is_cut, depth_kind}
 use Rattle.jsx.specs.Settings.{good_depth, depth_set, length_kind, good_length, length_set}
 use Rattle.jsx.specs.Settings.{skipped_from, judged, on_set, settled_from}
 

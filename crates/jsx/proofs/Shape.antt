@@ -338,7 +338,8 @@ module _ (n : Inner) (h : InnerFlow n) where
 
   open_tag_again : L (pend pass) (open_tag n) shut shut
   unfolding open_tag
-  open_tag_again = node_flow Kind.opening_tag refl (search (flow_rules, element_name_flow, attributes_flow, tag_end_shut))
+  open_tag_again = node_flow Kind.opening_tag refl
+      (search (flow_rules, element_name_flow, attributes_flow, tag_end_shut))
 
   -- ---- children and elements
 
@@ -367,7 +368,8 @@ close_tag_again = node_flow Kind.closing_tag refl
     (search (flow_rules, element_name_flow, expect_shut) depth 10))
 
 close_tag_clear : clear close_tag ≡ true
-unfolding clear close_tag close_name expect need element_name namespaced member one_part other_part object dotted dotted_part
+unfolding clear close_tag close_name expect need element_name namespaced member one_part other_part object dotted
+    dotted_part
     part blanks blank comment comment_turn line_comment line_turn
 close_tag_clear = refl
 
@@ -414,7 +416,8 @@ none_flow = record {
 
 -- With one level more, the rules of the level.
 level_flow : (d : ℕ) → InnerFlow (within d) → InnerFlow (level d (within d))
-unfolding level child_braces_in value_braces_in empty_value_braces empty_braces spread container paren_in bracket_in call_in
+unfolding level child_braces_in value_braces_in empty_value_braces empty_braces spread container paren_in bracket_in
+    call_in
     argument_turn prefix_in choice_in advances pass blanks
 level_flow d h = let n = within d in record {
   element = element_in_again d h;

@@ -36,7 +36,8 @@ steady_direct l h = record { plain = λ o. h (direct o); stays = λ ω c₁. ap 
 
 one_name_node : (w : List ℕ) → IsNode (one_name w)
 unfolding one_name
-one_name_node w = node_if (has "-" w) _ _ tt (node_if (first_is opens_reference w) _ _ tt (node_if (is_this w) _ _ tt tt))
+one_name_node w = node_if (has "-" w) _ _ tt
+    (node_if (first_is opens_reference w) _ _ tt (node_if (is_this w) _ _ tt tt))
 
 object_name_node : (w : List ℕ) → IsNode (object_name w)
 unfolding object_name

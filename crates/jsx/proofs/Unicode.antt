@@ -248,7 +248,8 @@ one_or f w c more h k g = go (one_of w c) refl k
 
 -- None of the 25.
 blank_apart : (c : ℕ) → blank_char c ≡ true → in_part c ≡ false
-unfolding none_passes blank_char white_space space_separator line_terminator in_part id_continue in_ranges continue_ranges letter
+unfolding none_passes blank_char white_space space_separator line_terminator in_part id_continue in_ranges
+    continue_ranges letter
     digit
 blank_apart c h = go (white_space c) refl h
   where

@@ -85,7 +85,8 @@ apart_rows =
     (row 1 1 5 4294967295 4 0 0 (row 18 1 5 1 4 0 1 (row 3 2 3 2 4 0 2 (row 14 5 6 4294967295 5 0 0 []))))
 
 -- Joined, they have these rows.
-pub runs_apart : (texts_meet (rows_read standard run (bytes_of "a<b/>")) 4 (rows_read standard run (bytes_of "c")) ≡ false)
+pub runs_apart : (texts_meet (rows_read standard run (bytes_of "a<b/>")) 4 (rows_read standard run (bytes_of "c"))
+    ≡ false)
     × (count_of standard run (bytes_of "a<b/>c") ≡ 5)
     × (rows_read standard run (bytes_of "a<b/>c") ≡ apart_rows)
 unfolding whole_page
@@ -98,7 +99,8 @@ met_rows =
     (row 11 8 10 4294967295 6 0 0 (row 12 9 9 4 6 0 1 [])))))
 
 -- Joined, they have these rows.
-pub runs_met : (texts_meet (rows_read standard run (bytes_of "<b/>hi")) 4 (rows_read standard run (bytes_of "yo{}")) ≡ true)
+pub runs_met : (texts_meet (rows_read standard run (bytes_of "<b/>hi")) 4 (rows_read standard run (bytes_of "yo{}"))
+    ≡ true)
     × (count_of standard run (bytes_of "<b/>hiyo{}") ≡ 6)
     × (rows_read standard run (bytes_of "<b/>hiyo{}") ≡ met_rows)
 unfolding whole_page

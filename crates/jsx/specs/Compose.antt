@@ -1,5 +1,6 @@
 -- The words of demand 3: what is accepted, runs that are joined, contents that are replaced.
-use Rattle.std.specs.Prelude.{ℕ, zero, suc, ◌+◌, ◌-◌, ◌*◌, ◌≤◌, ◌<◌, ◌≡◌, Bool, true, false, List, ◌++◌, length, take, drop, replicate, eqb}
+use Rattle.std.specs.Prelude.{ℕ, zero, suc, ◌+◌, ◌-◌, ◌*◌, ◌≤◌, ◌<◌, ◌≡◌, Bool, true, false, List, ◌++◌, length, take}
+use Rattle.std.specs.Prelude.{drop, replicate, eqb}
 use Rattle.rules.specs.Forest.{Label, node, content, Forest, nil}
 use Rattle.rules.specs.Rule.{Rule}
 use Rattle.rules.specs.Parse.{Answer, got, trouble, pick, parse_all}

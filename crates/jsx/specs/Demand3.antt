@@ -127,8 +127,10 @@ pub record ContentIsRun (reading : ℕ → Rule) (l : Limits) (s t : List ℕ) (
   pub start_end : content_start t j ≤ content_end t c
   pub in_input : content_end t c ≤ length s
   pub first_last : content_first t j ≤ c
-  pub is_run : Accepted (with_depth l (depth_left l reading s j)) run (bytes_between s (content_start t j) (content_end t c))
-  pub counted : count_of (with_depth l (depth_left l reading s j)) run (bytes_between s (content_start t j) (content_end t c))
+  pub is_run : Accepted (with_depth l (depth_left l reading s j)) run
+      (bytes_between s (content_start t j) (content_end t c))
+  pub counted : count_of (with_depth l (depth_left l reading s j)) run
+      (bytes_between s (content_start t j) (content_end t c))
       ≡ c - content_first t j
   pub moved_rows : content_rows t j c
       ≡ moved (content_start t j) (content_first t j) (content_deeper t j) missing j

@@ -4,7 +4,8 @@ use Rattle.std.specs.Prelude.{ℕ, ◌+◌, ◌/◌, ◌%◌, ◌≤◌, ◌<◌
 use Rattle.rules.specs.Parse.{pick}
 use Rattle.jsx.specs.Byte.{bytes_of}
 use Rattle.jsx.specs.Reading.{Limits, standard}
-use Rattle.jsx.specs.Settings.{cut_short, unknown_kind, Settled, set, unset, held, depth_kind, length_kind, skipped_from, settled_from}
+use Rattle.jsx.specs.Settings.{cut_short, unknown_kind, Settled, set, unset, held, depth_kind, length_kind}
+use Rattle.jsx.specs.Settings.{skipped_from, settled_from}
 use Rattle.jsx.specs.Settings.{settings, capped}
 
 -- ---- D2: "A settings store is a list of records, each preceded by 53 54 hex: a kind byte, a length byte, that many

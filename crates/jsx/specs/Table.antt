@@ -1,5 +1,6 @@
 -- Check, read and the table; the bytes of a record. Chapters 'Refusal numbers' and 'The table'.
-use Rattle.std.specs.Prelude.{ℕ, ◌+◌, ◌-◌, ◌*◌, ◌/◌, Bool, true, false, List, [], ◌++◌, length, take, drop, get_or, leb, ltb}
+use Rattle.std.specs.Prelude.{ℕ, ◌+◌, ◌-◌, ◌*◌, ◌/◌, Bool, true, false, List, [], ◌++◌, length, take, drop, get_or, leb}
+use Rattle.std.specs.Prelude.{ltb}
 use Rattle.rules.specs.Rule.{Rule}
 use Rattle.rules.specs.Parse.{Answer, got, trouble, pick}
 use Rattle.rules.specs.Record.{row_words, count, records}

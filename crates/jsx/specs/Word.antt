@@ -3,7 +3,8 @@ use Rattle.std.specs.Prelude.{ℕ, Bool, true, false, List, [], ◌∷◌, ◌++
 use Prim.Native.Char.{Char}
 use Prim.Native.String.{String}
 use Rattle.rules.specs.Forest.{direct}
-use Rattle.rules.specs.Rule.{Rule, done, stop, step, refuse, when, many, said, marked, here, mark, from_mark, ◌⨾◌, ◌⇒◌∣◌}
+use Rattle.rules.specs.Rule.{Rule, done, stop, step, refuse, when, many, said, marked, here, mark, from_mark, ◌⨾◌}
+use Rattle.rules.specs.Rule.{◌⇒◌∣◌}
 use Rattle.rules.specs.Parse.{pick}
 use Rattle.jsx.specs.Refusal.{unexpected, string_never_closed}
 use Rattle.jsx.specs.Byte.{bytes_of, is, end, digit, line_end, need}

@@ -96,7 +96,8 @@ unfolding bytes_from
 bytes_length s zero p = refl
 bytes_length s (suc n) p = ap suc (bytes_length s n (p + 1))
 
-bytes_small : (s : List ℕ) → ((k : ℕ) → Fits w8 (get_or s k 0)) → (n p : ℕ) → p + n ≤ length s → Bytes (bytes_from s p n)
+bytes_small : (s : List ℕ) → ((k : ℕ) → Fits w8 (get_or s k 0)) → (n p : ℕ) → p + n ≤ length s
+    → Bytes (bytes_from s p n)
 unfolding bytes_from Bytes
 bytes_small s each zero p i = tt
 bytes_small s each (suc n) p i =

@@ -15,7 +15,8 @@ use Rattle.rules.proofs.Again.{again, after_no, after_got, seq_no}
 use Rattle.jsx.specs.Kind as Kind
 use Rattle.jsx.specs.Byte.{is}
 use Rattle.jsx.specs.Blank.{blanks}
-use Rattle.jsx.specs.Name.{dashed, one_name, part, one_part, other_part, namespaced, member, element_name, attribute_name}
+use Rattle.jsx.specs.Name.{dashed, one_name, part, one_part, other_part, namespaced, member, element_name}
+use Rattle.jsx.specs.Name.{attribute_name}
 use Rattle.jsx.proofs.Again.{look_got}
 use Rattle.lex.specs.Contract.{nothing, out_of, bytes_from, Leaf, Past}
 use Rattle.lex.specs.declared.Ans.{Ans}

@@ -32,7 +32,8 @@ module _ {s : List ℕ} {at b : ℕ} where
       let i = digit_inside s at d in
       rw e record { is = known _ (go (byte_is y x) i); far = omega arith }
     where
-      go : is "0" (byte_at s at) ≡ true → at < length s → read_at s whole at ≡ got true (byte (byte_at s at) nil) (at + 1)
+      go : is "0" (byte_at s at) ≡ true → at < length s
+          → read_at s whole at ≡ got true (byte (byte_at s at) nil) (at + 1)
       go h i = rw (h, lt-ltb at (length s) i)
 
   -- Digits.

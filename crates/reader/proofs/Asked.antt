@@ -54,11 +54,13 @@ module _ (s : List ℕ) (at : ℕ) {b : ℕ} (e : b ≡ byte_at s at) where
   seen_name u h i f g = rw (f, g) (Lex.tested opens_name e h i)
 
   -- A digit was seen.
-  pub seen_digit : {t : Bool} (u : List ℕ) {y : ℕ} → t ≡ digit b → t ≡ true → y ≡ at → u ≡ s → digit (byte_at u y) ≡ true
+  pub seen_digit : {t : Bool} (u : List ℕ) {y : ℕ} → t ≡ digit b → t ≡ true → y ≡ at → u ≡ s
+      → digit (byte_at u y) ≡ true
   seen_digit u h i f g = rw (f, g) (Lex.tested digit e h i)
 
   -- A quote was seen.
-  pub seen_quote : {t : Bool} (u : List ℕ) {y : ℕ} → t ≡ quote b → t ≡ true → y ≡ at → u ≡ s → quote (byte_at u y) ≡ true
+  pub seen_quote : {t : Bool} (u : List ℕ) {y : ℕ} → t ≡ quote b → t ≡ true → y ≡ at → u ≡ s
+      → quote (byte_at u y) ≡ true
   seen_quote u h i f g = rw (f, g) (Lex.tested quote e h i)
 
   -- A byte of a text was seen.

@@ -192,7 +192,8 @@ module _ (d : ℕ) {s : List ℕ} {at : ℕ} {c : ℕ} {q : Seat} (room : Room c
         reader_leaf_refuses held_begun (R.goes_expression d) l K.goes_shut_braces K.bare_shut_braces h l₂ h₂
 
     -- It is read.
-    pub held_is : {z i y x : ℕ} → r₂ ≡ Got z i → y ≡ z → x ≡ m → Made (Got y x) s (in_container (within d)) at 2 q 0 t t₁
+    pub held_is : {z i y x : ℕ} → r₂ ≡ Got z i → y ≡ z → x ≡ m
+        → Made (Got y x) s (in_container (within d)) at 2 q 0 t t₁
     held_is h₂ f g =
         let far = l.of.far _ _ h in
         let far₂ = l₂.far _ _ h₂ in
@@ -270,7 +271,8 @@ unfolding empty_value_braces parse expect calm pass blanks blank comment comment
 empty_value_lem {s} {at} {p} l y =
     let F = suc (length s) in
     let i = Lex.before_end s p (code "}") y (lit< tt) in
-    let passed : parsed s pass at at ≡ got true (out_of (read_at s pass at)) p = unmarked s F pass refl at 0 at ∙ l.is in
+    let passed : parsed s pass at at ≡ got true (out_of (read_at s pass at)) p = unmarked s F pass refl at 0 at
+    ∙ l.is in
     Lex.seq_is s F at at pass (expect "}" ⨾ refuse empty_value from_mark) passed
     ∙ ap (behind (out_of (read_at s pass at)))
     (Lex.seq_is s F at p (expect "}") (refuse empty_value from_mark)
@@ -310,7 +312,8 @@ module _ (d : ℕ) (s : List ℕ) (at : ℕ) {b : ℕ} (y : b ≡ byte_at s at) 
 
         module _ {p j : ℕ} (h : r ≡ Got p j) {b₂ : ℕ} (y₂ : b₂ ≡ byte_at s p) where
           braces_there : read_at s (value (within d)) at
-              ≡ pick (is "}" (byte_at s p)) (read_at s empty_value_braces at) (read_at s (container (within (d - 1))) at)
+              ≡ pick (is "}" (byte_at s p)) (read_at s empty_value_braces at)
+              (read_at s (container (within (d - 1))) at)
           braces_there =
               in_braces_lem ∙ L.value_braces_is s at d deep ∙ passed_over (leaf_passes K.goes_pass l h) (is "}") _ _
 
@@ -452,7 +455,8 @@ module _ (d : ℕ) {s : List ℕ} {at : ℕ} {q : Seat} {r : Ans} {t t₁ : List
           rw (f, g)
           (upto_made 1 (upto_as in_attr_named {h = done} (initial_stops d s e (told_stop l₂ h₂ n))) (omega arith))
 
-      module _ (n : j ≡ 0 → ⊥) {a : ℕ} (st : Start (length t₁) (row_words * k) a) {q₂ : Seat} (eq : q₂ ≡ seat_behind k q)
+      module _ (n : j ≡ 0 → ⊥) {a : ℕ} (st : Start (length t₁) (row_words * k) a) {q₂ : Seat}
+          (eq : q₂ ≡ seat_behind k q)
           {r₃ : Ans} {u : List ℕ} (l₃ : Made r₃ s (value (within d)) p 1 q₂ 0 (mid_of a (length t₁ - a) t₁) u) where
         in_attr_value : Upto s (in_attribute (within d)) at q 0 t (value (within d)) p k t₁
         in_attr_value =

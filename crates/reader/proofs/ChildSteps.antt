@@ -220,7 +220,8 @@ module _ (d : ℕ) (s : List ℕ) (at : ℕ) {b : ℕ} (y : b ≡ byte_at s at) 
             child_spread x₄ l₂ =
                 let e = Lex.byte_not y₂ x₃ in
                 let f = Lex.byte_is y₂ x₄ in
-                child_of (within d) l₂ (omega arith) (R.goes_spread (d - 1) Kind.spread_child) (behind_brace ∙ rw (e, f))
+                child_of (within d) l₂ (omega arith) (R.goes_spread (d - 1) Kind.spread_child)
+                (behind_brace ∙ rw (e, f))
 
             -- `{expression}`.
             pub child_held : {q : Seat} {t t' : List ℕ} {r₂ : Ans} → (b₂ ≡ code "." → ⊥)

@@ -14,7 +14,8 @@ use Rattle.rules.proofs.Got.{going}
 use Rattle.rules.proofs.Flat.{seq_assoc, Next}
 use Rattle.jsx.specs.Byte.{is, ◌or◌}
 use Rattle.jsx.specs.Blank.{blanks, pass}
-use Rattle.jsx.specs.Expression.{Inner, primary, postfix_turn, postfix, unary, either, times, plus_minus, and_and, or_or}
+use Rattle.jsx.specs.Expression.{Inner, primary, postfix_turn, postfix, unary, either, times, plus_minus, and_and}
+use Rattle.jsx.specs.Expression.{or_or}
 use Rattle.jsx.specs.Expression.{conditional, argument_turn}
 use Rattle.jsx.specs.Tag.{attribute, attribute_turn, attributes}
 use Rattle.jsx.specs.Depth.{within}

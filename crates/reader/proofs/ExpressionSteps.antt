@@ -202,7 +202,8 @@ module _ (d : ℕ) {s : List ℕ} {at : ℕ} {q : Seat} {r : Ans} {t t₁ : List
 
   module _ {e k : ℕ} (h : r ≡ Got e k) {a : ℕ} (st : Start (length t₁) (row_words * k) a) {q₂ : Seat}
       (eq : q₂ ≡ seat_behind k q)
-      {r₂ : Ans} {u : List ℕ} (l₂ : Made r₂ s (many (argument_turn (within d))) e 0 q₂ 0 (mid_of a (length t₁ - a) t₁) u)
+      {r₂ : Ans} {u : List ℕ} (l₂ : Made r₂ s (many (argument_turn (within d))) e 0 q₂ 0
+      (mid_of a (length t₁ - a) t₁) u)
     where
       args_begun : Upto s (arguments (within d)) at q 0 t
           (conditional (within d) ⨾ many (argument_turn (within d)) ⨾ expect_byte (code ")")) at 0 t
@@ -578,7 +579,8 @@ module _ (d : ℕ) {s : List ℕ} {at : ℕ} {c : ℕ} {q : Seat} (room : Room c
       arms_refuse_inside h₃ = refused (last_made_stops arms_second (made_lent t₁ st l₃ refl) h₃) h₃
 
       -- Both are read.
-      pub arms_are : {z m y x : ℕ} {t₂ : List ℕ} → r₃ ≡ Got z m → t₂ ≡ put_mid a (length t₁ - a) t₁ u → y ≡ z → x ≡ k + m
+      pub arms_are : {z m y x : ℕ} {t₂ : List ℕ} → r₃ ≡ Got z m → t₂ ≡ put_mid a (length t₁ - a) t₁ u → y ≡ z
+          → x ≡ k + m
           → Made (Got y x) s (arms_of (within d)) at 1 q 0 t t₂
       arms_are h₃ w f g =
           let far = l.of.far _ _ h in

@@ -88,7 +88,8 @@ leaf_made_as G {q = q} {i} {t} j ba l e f = made_as (leaf_makes q i t ba l) G j 
 module _ {c : ℕ} {s : List ℕ} {at : ℕ} {q : Seat} (room : Room c s at q) {r : Ans} {g : Rule} {k : ℕ} {q₁ : Seat}
     {i : ℕ} {t t' : List ℕ} (l : Made r s g at k q₁ i t t') {e m : ℕ} (h : r ≡ Got e m) where
   -- Room behind it.
-  pub made_room : {d : ℕ} {u : List ℕ} {y : ℕ} {q₂ : Seat} → c ≤ d → u ≡ s → y ≡ e → q₂ ≡ seat_behind m q → Room d u y q₂
+  pub made_room : {d : ℕ} {u : List ℕ} {y : ℕ} {q₂ : Seat} → c ≤ d → u ≡ s → y ≡ e → q₂ ≡ seat_behind m q
+      → Room d u y q₂
   made_room i f z w =
       let far = l.of.far _ _ h in
       let few = room.few in

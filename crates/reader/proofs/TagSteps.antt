@@ -101,7 +101,8 @@ module _ {s : List ℕ} {a : ℕ} {c : ℕ} {q : Seat} (room : Room c s a q) {r 
         shallow = omega (arith, room.shallow);
       })
 
-module _ (d : ℕ) {s : List ℕ} {a : ℕ} {q : Seat} {r : Ans} {t t₁ : List ℕ} (l : Made r s element_name a 1 q 0 t t₁) where
+module _ (d : ℕ) {s : List ℕ} {a : ℕ} {q : Seat} {r : Ans} {t t₁ : List ℕ}
+    (l : Made r s element_name a 1 q 0 t t₁) where
   -- The name refuses.
   pub tag_refuses : {x : Tagged} {t' : List ℕ} {n i b g y : ℕ} → r ≡ A.No n i b g y → plain x ≡ r
       → TagMade x s (within d) a q t t'
@@ -316,13 +317,15 @@ tag_rows s d at a pa q t {z = z} {m} eQ x all w st =
     let sum = count_behind (front s at) (rest s d a) in
     st.is
     ∙ (λ i. sets (w i) row_words (node_row Q Kind.opening_tag at z 0 m))
-    ∙ (λ i. sets (sets t (2 * row_words) (rows_from (eQ i) a (rest s d a))) row_words (node_row Q Kind.opening_tag at z 0 m))
+    ∙ (λ i. sets (sets t (2 * row_words) (rows_from (eQ i) a (rest s d a))) row_words
+    (node_row Q Kind.opening_tag at z 0 m))
     ∙ ap (λ (r : List ℕ). sets (sets t (2 * row_words) r) row_words (node_row Q Kind.opening_tag at z 0 m))
     (sym (rows_behind (front s at) (rest s d a) (seat_inside Q) at (flat_front s d at a pa) (wide_front s d at a pa)))
     ∙ headed C t Q at row_words (2 * row_words) Kind.opening_tag z 0 m wide (omega arith) refl
 
 module _ (d : ℕ) {s : List ℕ} {at a : ℕ} (pa : Past a s pass at 1) (q : Seat) (t : List ℕ) {i : ℕ}
-    (st : Start (length t) (2 * row_words) i) {q₁ : Seat} (eq : q₁ ≡ seat_inside q) {q₂ : Seat} (eq₂ : q₂ ≡ seat_inside q₁)
+    (st : Start (length t) (2 * row_words) i) {q₁ : Seat} (eq : q₁ ≡ seat_inside q) {q₂ : Seat}
+    (eq₂ : q₂ ≡ seat_inside q₁)
     {r : Tagged} {u : List ℕ} (l : TagMade r s (within d) a q₂ (mid_of i (length t - i) t) u) where
   -- The tag refuses.
   pub named_refuses : {y : Ans} {t' : List ℕ} {n b c e f : ℕ} → r ≡ No n b c e f → y ≡ plain r
@@ -470,7 +473,8 @@ module _ (d : ℕ) {s : List ℕ} {at a : ℕ} (pa : Past a s pass at 1) (y : by
         → Made r s (children (within d)) (a + 1) 0 (seat_behind 1 (seat_inside q)) (2 * row_words) t₁ t₂
     fragment_lent {t₂} w =
         subst (λ (x : ℕ). Made r s (children (within d)) x 0 (seat_behind 1 (seat_inside q)) (2 * row_words) t₁ t₂) ep₁
-        (subst (λ (x : Seat). Made r s (children (within d)) p₁ 0 x (2 * row_words) t₁ t₂) (eq₃ ∙ ap (seat_behind 1) eq₂)
+        (subst (λ (x : Seat). Made r s (children (within d)) p₁ 0 x (2 * row_words) t₁ t₂)
+        (eq₃ ∙ ap (seat_behind 1) eq₂)
         (made_lent t₁ st₂ l w))
 
     -- A child refuses.

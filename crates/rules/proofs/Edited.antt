@@ -88,7 +88,8 @@ rows_pushed : (n₀ par : ℕ) (c₀ v r : Forest) (p deep : ℕ) {a a' n n' : �
 unfolding changed pushed
 rows_pushed n₀ par c₀ v r p deep {a} {a'} {n} {n'} ha hn ea en ep o =
     records_same r (sym ea) (sym en) (sym ep) refl
-    ∙ shifted (place_along (change_of c₀ v)) (number_along (change_of c₀ v)) (pushed_parent n₀ par (change_of c₀ v)) (λ y. y)
+    ∙ shifted (place_along (change_of c₀ v)) (number_along (change_of c₀ v)) (pushed_parent n₀ par (change_of c₀ v))
+    (λ y. y)
     (width c₀) (n₀ + count c₀) par
     (λ x y h. omega arith) (λ x y h. omega arith) (parent_behind n₀ par c₀ v) (λ y. refl) r a n p deep ha hn o
     ∙ (λ i. each_row (λ t. same t i) (records a n p deep r))

@@ -227,7 +227,8 @@ module _ (h : Test) (s : List ℕ) (F : ℕ) where
 
   pays_seq : {n y mn my gn gy kn ky : ℕ} {x : Answer} {f : ℕ → Answer} (at : ℕ) {a : Bool} {o : Forest} {p : ℕ}
       → SeqOut x f a o p
-      → ((b : Bool) (v : Forest) (q : ℕ) → x ≡ got b v q → Pays n y mn my kn ky (h (code_at s at)) (h (code_at s q)) b v)
+      → ((b : Bool) (v : Forest) (q : ℕ) → x ≡ got b v q
+      → Pays n y mn my kn ky (h (code_at s at)) (h (code_at s q)) b v)
       → ((q : ℕ) (v : Forest) → f q ≡ got a v p → Pays mn my gn gy kn ky (h (code_at s q)) (h (code_at s p)) a v)
       → Pays n y gn gy kn ky (h (code_at s at)) (h (code_at s p)) a o
   pays_seq at (two o₁ p₁ o₂ x z w) hx hz = pays_join w (hx true o₁ p₁ x) (hz p₁ o₂ z)
@@ -236,7 +237,8 @@ module _ (h : Test) (s : List ℕ) (F : ℕ) where
   pays_said : {n y mn my gn gy kn ky : ℕ} {k : Forest → Bool} {x : Answer} {f g : ℕ → Answer}
       (at : ℕ) {a : Bool} {o : Forest} {p : ℕ}
       → SaidOut k x f g a o p
-      → ((b : Bool) (v : Forest) (q : ℕ) → x ≡ got b v q → Pays n y mn my kn ky (h (code_at s at)) (h (code_at s q)) b v)
+      → ((b : Bool) (v : Forest) (q : ℕ) → x ≡ got b v q
+      → Pays n y mn my kn ky (h (code_at s at)) (h (code_at s q)) b v)
       → ((q : ℕ) (v : Forest) → f q ≡ got a v p → Pays mn my gn gy kn ky (h (code_at s q)) (h (code_at s p)) a v)
       → ((q : ℕ) (v : Forest) → g q ≡ got a v p → Pays mn my gn gy kn ky (h (code_at s q)) (h (code_at s p)) a v)
       → Pays n y gn gy kn ky (h (code_at s at)) (h (code_at s p)) a o

@@ -403,7 +403,8 @@ module _ (gap : Rule) (s : List ℕ) (F e : ℕ) where
 
   table_shuffled : {xs ys : List Operator}
       → Shuffle xs ys
-      → (next end : Rule) (at : ℕ) → parse s F (table_of gap xs next end) e at ≡ parse s F (table_of gap ys next end) e at
+      → (next end : Rule) (at : ℕ) → parse s F (table_of gap xs next end) e at
+      ≡ parse s F (table_of gap ys next end) e at
   unfolding parse
   table_shuffled as_is next end at = refl
   table_shuffled (keep {x = x} k) next end at =

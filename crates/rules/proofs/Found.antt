@@ -353,7 +353,8 @@ module _ (C : ℕ → Rule) (Q : Test) (R : Label → Forest → Type 0) (s : Li
         w₁ : p₁ ≡ at + width o₁
         w₁ = wide_got s F t e at x
 
-        behind_tag : (ω : Spot d c₀ (group (content d₁) h r)) → (p₁ ≤ p₁ + bytes_before ω) × Content (p₁ + bytes_before ω)
+        behind_tag : (ω : Spot d c₀ (group (content d₁) h r))
+            → (p₁ ≤ p₁ + bytes_before ω) × Content (p₁ + bytes_before ω)
         behind_tag (arrived pk ph) =
             let de : d₁ ≡ d = content_same pk in
             let wd : p₂ ≡ p₁ + width h = wide_got s F (C d₁) e p₁ y in

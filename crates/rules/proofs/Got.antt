@@ -191,7 +191,8 @@ unfolding parse
 pair_out s F d t c u v e at {a} {o} {p} k = go (then_got (parse s F t e at) _ k)
   where
     Tail : Forest → Bool → Forest → ℕ → Answer
-    Tail o₁ b h q = and_then (parse s F u e q) (λ b' r z. judged at q (v o₁ r) (got true (o₁ ⋈ group (content d) h r) z))
+    Tail o₁ b h q = and_then (parse s F u e q)
+        (λ b' r z. judged at q (v o₁ r) (got true (o₁ ⋈ group (content d) h r) z))
 
     go : (a₁ : Bool) × (o₁ : Forest) × (p₁ : ℕ) × (parse s F t e at ≡ got a₁ o₁ p₁)
         × (pick a₁ (and_then (parse s F c e p₁) (Tail o₁)) (got true o₁ p₁) ≡ got a o p)

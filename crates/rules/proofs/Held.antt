@@ -119,7 +119,8 @@ module _ {d : ℕ} {c₀ : Forest} where
   held (group (content d') c u) n par j l ω =
       go (ltb j (n + count c)) refl ω (held c n par j l) (held u (n + count c) par j)
     where
-      go : (b : Bool) → ltb j (n + count c) ≡ b → (ω : Spot d c₀ (pick b (inside_of n j c) (inside_of (n + count c) j u)))
+      go : (b : Bool) → ltb j (n + count c) ≡ b
+          → (ω : Spot d c₀ (pick b (inside_of n j c) (inside_of (n + count c) j u)))
           → ((ω : Spot d c₀ (inside_of n j c)) → Held c n par j ω)
           → (n + count c ≤ j → (ω : Spot d c₀ (inside_of (n + count c) j u)) → Held u (n + count c) par j ω)
           → Held (group (content d') c u) n par j ω

@@ -134,7 +134,8 @@ module _ (is_text : Label → Bool) where
   meet_right l c l' c' v h = go (is_text l)
     where
       go : (b : Bool)
-          → pick (pick b (is_text l') false) (group l (c ⋈ c') v) (group l c (group l' c' v)) ≡ group l c (group l' c' v)
+          → pick (pick b (is_text l') false) (group l (c ⋈ c') v) (group l c (group l' c' v))
+          ≡ group l c (group l' c' v)
       go true = rw h
       go false = refl
 

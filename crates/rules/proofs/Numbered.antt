@@ -75,7 +75,8 @@ found (group (node k x) c u) at n j l h =
     go false e true e' hc hu =
         let q = eqb-false j n e in
         let r = ltb-true j (n + (1 + count c)) e' in rw (e, e') (in_node (hc (omega arith) (omega arith)))
-    go false e false e' hc hu = let r = ltb-false j (n + (1 + count c)) e' in rw (e, e') (past_node (hu r (omega arith)))
+    go false e false e' hc hu = let r = ltb-false j (n + (1 + count c)) e' in rw (e, e')
+        (past_node (hu r (omega arith)))
 found (group (content d) c u) at n j l h =
     go (ltb j (n + count c)) refl (found c at n j l) (found u (at + width c) (n + count c) j)
   where
@@ -115,7 +116,8 @@ module _ {j : ℕ} {l : Label} {t : Forest} {q : ℕ} where
       → Way j l t q at n u
       → Way j' l' t' q' q (j + 1) t
       → Way j' l' t' q' at n u
-  way_on {j' = j'} {l'} {t'} {q'} (self e p s a) w' = in_node (subst₃ (Way j' l' t' q') a (ap (λ (m : ℕ). m + 1) e) s w')
+  way_on {j' = j'} {l'} {t'} {q'} (self e p s a) w' = in_node
+      (subst₃ (Way j' l' t' q') a (ap (λ (m : ℕ). m + 1) e) s w')
   way_on (in_node w) w' = in_node (way_on w w')
   way_on (past_node w) w' = past_node (way_on w w')
   way_on (in_content w) w' = in_content (way_on w w')
@@ -483,7 +485,8 @@ pub first_child_lem : (u : Forest) (at n j k x : ℕ) (t v : Forest) → n ≤ j
 first_child_lem u at n j k x t v l h e =
     way_node
     (way_on (found u at n j l h)
-    (subst (Way (j + 1) (node k x) t (place_of at n j u) (place_of at n j u) (j + 1)) (sym e) (self refl refl refl refl)))
+    (subst (Way (j + 1) (node k x) t (place_of at n j u) (place_of at n j u) (j + 1)) (sym e)
+    (self refl refl refl refl)))
 
 -- A node with a content inside is a record of the forest, and so are the records in front of the content and in it.
 pub content_known : (d : ℕ) (c₀ u : Forest) (n j : ℕ) (o r : Forest)

@@ -128,6 +128,7 @@ module _ (n : ℕ) (s : List ℕ) (F : ℕ) (enough : length s < F) where
   only (paired t d c u v) b h e at i k = never h
 
 -- A whole input is read, or refused by n.
-pub refuses_only : (n : ℕ) (t : Rule) → refuses_by n false t ≡ true → (s : List ℕ) → Refuses (λ m. m ≡ n) (parse_all t s)
+pub refuses_only : (n : ℕ) (t : Rule) → refuses_by n false t ≡ true → (s : List ℕ)
+    → Refuses (λ m. m ≡ n) (parse_all t s)
 unfolding parse_all
 refuses_only n t h s = only n s (suc (length s)) (omega arith) t false h 0 0 (omega arith) (λ e. never e)

@@ -1,5 +1,6 @@
 -- The meaning of a grammar: what a rule reads of an input, from a place on.
-use Rattle.std.specs.Prelude.{ℕ, zero, suc, ◌+◌, ◌-◌, ◌*◌, ◌<◌, Bool, true, false, List, [], ◌∷◌, length, get_or, ltb, eqb}
+use Rattle.std.specs.Prelude.{ℕ, zero, suc, ◌+◌, ◌-◌, ◌*◌, ◌<◌, Bool, true, false, List, [], ◌∷◌, length, get_or, ltb}
+use Rattle.std.specs.Prelude.{eqb}
 use Rattle.rules.specs.Forest.{Forest, nil, byte, group, content, ◌⋈◌}
 use Rattle.rules.specs.Rule.{Place, here, mark, from_mark, this_byte, Verdict, fine, differ, Look, bytes, char}
 use Rattle.rules.specs.Rule.{Rule, done, stop, step}

@@ -153,7 +153,8 @@ module _ (s : List ℕ) (a b e q : ℕ) {w v : Forest} (n : Named s a b) (h : re
       let y = behind_out (object_of w) (read_at s (many dotted) e) x.1 in
       go x.0 x.2 y.0 y.2 (Names.rest_read s n.inside k y.1)
     where
-      go : (t : Forest) → name_at s a ≡ group (node 7 0) t nil → (u : Forest) → t ≡ object_of w ⋈ u → Names.Rest s e b q u
+      go : (t : Forest) → name_at s a ≡ group (node 7 0) t nil → (u : Forest) → t ≡ object_of w ⋈ u
+          → Names.Rest s e b q u
           → Form s a b e q
       go t f u g (Names.over d l i) = false_true d c
       go t f u g (Names.more l z d i) = several dot (eqb-true (byte_at s q) (code ".") c) (record {
@@ -181,7 +182,8 @@ module _ (s : List ℕ) (a b e q : ℕ) {w v : Forest} (n : Named s a b) (h : re
       (sym (element_name_once s (suc (length s)) 0 a h k) ∙ n.read)
     where
       go : (c d : Bool) → is ":" (byte_at s q) ≡ c → is "." (byte_at s q) ≡ d
-          → pick c (node_around 6 (behind (other_part_of w) (behind v (read_at s (expect ":" ⨾ blanks ⨾ other_part) q))))
+          → pick c (node_around 6 (behind (other_part_of w)
+          (behind v (read_at s (expect ":" ⨾ blanks ⨾ other_part) q))))
           (pick d (node_around 7 (behind (object_of w) (read_at s (many dotted) e))) (got true (one_part_of w) e))
           ≡ got true (name_at s a) b
           → Form s a b e q

@@ -85,14 +85,16 @@ module _ (s : List ℕ) (at : ℕ) {a : Bool} (y : a ≡ other_than (code "S") (
   unfolding marks_other
   marks_first h = sym (rw (first ∙ h))
 
-  pub marks_second : a ≡ false → {b : Bool} → b ≡ other_than (code "T") (byte_at s (at + 1)) → b ≡ marks_other (drop at s)
+  pub marks_second : a ≡ false → {b : Bool} → b ≡ other_than (code "T") (byte_at s (at + 1))
+      → b ≡ marks_other (drop at s)
   unfolding marks_other
   marks_second h z = z ∙ sym (rw (first ∙ h, inside s at 1))
 
 pub size_here : (s : List ℕ) (at : ℕ) {n : ℕ} → n ≡ byte_at s (at + 3) → n ≡ size_of (drop at s)
 size_here s at y = y ∙ sym (inside s at 3)
 
-pub cut_here : (s : List ℕ) (at : ℕ) {n : ℕ} → n ≡ size_of (drop at s) → ltb (length s - at) (4 + n) ≡ is_cut (drop at s)
+pub cut_here : (s : List ℕ) (at : ℕ) {n : ℕ} → n ≡ size_of (drop at s)
+    → ltb (length s - at) (4 + n) ≡ is_cut (drop at s)
 unfolding is_cut
 cut_here s at y = rw (length-drop at s, y)
 

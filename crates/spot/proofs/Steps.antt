@@ -102,7 +102,8 @@ module _ (s : List ℕ) (i : ℕ) {x : Place} (is : x ≡ spot_at s i) where
   column_fits h = let e = ap (λ (y : Place). y.column) is in let f = spot_small s i in omega arith
 
   -- A line's end begins a line,
-  pub step_line : {f : Bool} {l c m j : ℕ} → f ≡ ends_line s i → f ≡ true → l ≡ x.line + 1 → c ≡ 1 → m ≡ i + 1 → j ≡ i + 1
+  pub step_line : {f : Bool} {l c m j : ℕ} → f ≡ ends_line s i → f ≡ true → l ≡ x.line + 1 → c ≡ 1 → m ≡ i + 1
+      → j ≡ i + 1
       → record { line = l; column = c; start = m } ≡ spot_at s j
   unfolding spot_behind
   step_line ef e el ec em ej =
@@ -158,7 +159,17 @@ first_spot s = refl
 pub last_spot : (s : List ℕ) {x : Place} {i p : ℕ} → x ≡ spot_at s i → i ≤ p → p ≤ i → x ≡ spot_at s p
 last_spot s {i = i} {p} e h l = let f : i ≡ p = omega arith in e ∙ ap (spot_at s) f
 
-pub ruleset spot_steps = (rules, line_fits, column_fits, step_line, step_same, step_column, first_spot, last_spot, line_before)
+pub ruleset spot_steps = (
+  rules,
+  line_fits,
+  column_fits,
+  step_line,
+  step_same,
+  step_column,
+  first_spot,
+  last_spot,
+  line_before,
+)
 
 -- ---- the end of a line
 
@@ -173,7 +184,8 @@ module _ (s : List ℕ) where
   clear_none p h = record { behind = omega arith; inside = h; none = λ j l m. absurd (omega arith) }
 
   -- One more byte.
-  pub clear_more : {p i j b : ℕ} → Clear s p i → i < length s → b ≡ byte_at s i → (b ≡ 10 → ⊥) → (b ≡ 13 → ⊥) → j ≡ i + 1
+  pub clear_more : {p i j b : ℕ} → Clear s p i → i < length s → b ≡ byte_at s i → (b ≡ 10 → ⊥) → (b ≡ 13 → ⊥)
+      → j ≡ i + 1
       → Clear s p j
   clear_more {p} {i} {j} {b} c h is n m e = record {
     behind = let w = c.behind in omega arith;

@@ -86,7 +86,8 @@ module _ {reading : ℕ → Rule} (nu : Numbering reading) where
       room : {g : Bool} {o : Forest} {p : ℕ} → answer standard reading s ≡ got g o p → (f : Bool)
           → leb (count o) (holds t) ≡ f
           → refused n a b c d t'
-          ≡ pick f (accepted (count o) (written (records 0 0 missing 0 o) t)) (refused table_too_small (count o) 0 0 0 t)
+          ≡ pick f (accepted (count o) (written (records 0 0 missing 0 o) t))
+          (refused table_too_small (count o) 0 0 0 t)
           → (Checks reading s (Refused n a b c d) ⊎ TooSmall reading s t n a b c d) × (t' ≡ t)
       room {o = o} e true h k =
           absurd (not_both n a b c d (count o) t' (written (records 0 0 missing 0 o) t) v.numbered k)

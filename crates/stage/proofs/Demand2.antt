@@ -157,7 +157,8 @@ read_ab = refl
 -- `<a/>` is accepted.
 pub not_refusing_everything : NotRefusingEverything
 not_refusing_everything f right all =
-    subst IsRefusal (gives f right (bytes_of "<a/>") (table_of 3) 3 rows_a read_a).0 (all (bytes_of "<a/>") (table_of 3))
+    subst IsRefusal (gives f right (bytes_of "<a/>") (table_of 3) 3 rows_a read_a).0
+    (all (bytes_of "<a/>") (table_of 3))
 
 -- `<a/>` and `<ab/>` have different tables.
 pub not_one_table : NotOneTable

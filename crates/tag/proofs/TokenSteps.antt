@@ -58,7 +58,8 @@ module _ {s : List ℕ} {at : ℕ} (c : ℕ) {r : Ans} where
   open_stops l h = two_stop l 1 h
 
   -- It is there.
-  pub open_is : {r₂ : Ans} {p j : ℕ} → Leaf nothing r s (expect_byte c) at 1 → r ≡ Got p j → Leaf nothing r₂ s blanks p 0
+  pub open_is : {r₂ : Ans} {p j : ℕ} → Leaf nothing r s (expect_byte c) at 1 → r ≡ Got p j
+      → Leaf nothing r₂ s blanks p 0
       → Leaf nothing r₂ s (open_by c) at 1
   unfolding open_by
   open_is l h l₂ = two_are l 1 (goes_expect c) h l₂ (omega arith)
@@ -198,7 +199,8 @@ module _ {s : List ℕ} {at : ℕ} (n : ℕ) {r : Ans} (l : Leaf nothing r s bla
 
   module _ {p j : ℕ} (h : r ≡ Got p j) {b : ℕ} (y : b ≡ byte_at s p) where
     once : read_at s (no_sibling n) at
-        ≡ pick (is "<" (byte_at s p)) (behind (out_of (read_at s blanks at)) (read_at s (sibling n) p)) (got true nil at)
+        ≡ pick (is "<" (byte_at s p)) (behind (out_of (read_at s blanks at)) (read_at s (sibling n) p))
+        (got true nil at)
     once = no_sibling_once s (suc (length s)) 0 at (Lex.leaf_got goes_blanks l h) n
 
     -- No `<` is behind them: nothing is passed.
@@ -216,7 +218,8 @@ module _ {s : List ℕ} {at : ℕ} (n : ℕ) {r : Ans} (l : Leaf nothing r s bla
       refuses k ea ec =
           let e = Lex.byte_is y x in
           rw (ea, ec)
-          (Lex.leaf_stop nothing s (no_sibling n) at 0 refl (once ∙ rw e (ap (behind (out_of (read_at s blanks at))) k)))
+          (Lex.leaf_stop nothing s (no_sibling n) at 0 refl
+          (once ∙ rw e (ap (behind (out_of (read_at s blanks at))) k)))
 
       -- `<<`.
       pub sibling_less : {a c : ℕ} → f ≡ true → a ≡ p → c ≡ p → Leaf nothing (No n a c 0 0) s (no_sibling n) at 0

@@ -190,7 +190,8 @@ module _
 
 -- ---- a string inside braces
 
-module _ {s : List ℕ} {at q p : ℕ} (v : Quoted string_never_closed in_string s at q p) {b : ℕ} (y : b ≡ byte_at s p) where
+module _ {s : List ℕ} {at q p : ℕ} (v : Quoted string_never_closed in_string s at q p) {b : ℕ}
+    (y : b ≡ byte_at s p) where
   -- The input ends.
   pub string_open : b ≡ 256 → Leaf nothing (No string_never_closed at at 0 0) s string at 2
   unfolding string string_by string_turn

@@ -153,7 +153,8 @@ whens [] = begun Bad
 whens (l ∷ ls) = when l.0 (begun l.1) (whens ls)
 
 module _ (s : List ℕ) (F e at : ℕ) where
-  said_reads : (ls : List (Test × Lead)) → parse s F (whens ls) e at ≡ parse s F (begun (said_of ls (byte_at s at))) e at
+  said_reads : (ls : List (Test × Lead))
+      → parse s F (whens ls) e at ≡ parse s F (begun (said_of ls (byte_at s at))) e at
   unfolding parse said_of whens
   said_reads [] = refl
   said_reads (l ∷ ls) = go (l.0 (byte_at s at)) (said_reads ls)

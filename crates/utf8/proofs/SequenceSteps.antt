@@ -98,7 +98,8 @@ module _ (s : List ℕ) (p : ℕ) {b : ℕ} (i : p < length s) (y : byte_at s p 
         pub two : {q : ℕ} → n ≡ 2 → q ≡ p + 2 → Ended q s p
         unfolding parse ◌⋈◌
         two k y₀ =
-            ended_at_lem i 1 (byte (byte_at s p) (byte (byte_at s (p + 1)) nil)) y₀ (range_inside s (p + 1) lo hi h here)
+            ended_at_lem i 1 (byte (byte_at s p) (byte (byte_at s (p + 1)) nil)) y₀
+            (range_inside s (p + 1) lo hi h here)
             (begins g ∙ rw (lt-ltb p (length s) i, eq-eqb n 2 k, passes, next p 1))
 
         module _ (k : n ≡ 2 → ⊥) {t₂ : Bool} (w₂ : t₂ ≡ (0x80 ‥ 0xBF) (byte_at s (p + 2))) where
@@ -170,7 +171,8 @@ module _ (s : List ℕ) (p : ℕ) {b : ℕ} (i : p < length s) (y : byte_at s p 
               four x₃ y₀ =
                   let z = sym w₃ ∙ not-false t₃ x₃ in
                   ended_at_lem i 3
-                  (byte (byte_at s p) (byte (byte_at s (p + 1)) (byte (byte_at s (p + 2)) (byte (byte_at s (p + 3)) nil))))
+                  (byte (byte_at s p) (byte (byte_at s (p + 1))
+                  (byte (byte_at s (p + 2)) (byte (byte_at s (p + 3)) nil))))
                   y₀
                   (range_inside s (p + 3) 0x80 0xBF (lit< tt) z)
                   (begins g

@@ -313,7 +313,8 @@ module _ (s : List ℕ) (at : ℕ) where
       -- The first character stands within the input,
       pub first_inside : at + n ≤ length s
       first_inside =
-          let k : code_at s at ≡ no_char → ⊥ = λ z. never (sym PartTests.none_opens ∙ sym (ap opens_part z) ∙ sym i ∙ x) in
+          let k : code_at s at ≡ no_char
+          → ⊥ = λ z. never (sym PartTests.none_opens ∙ sym (ap opens_part z) ∙ sym i ∙ x) in
           let l = character_inside s at k in
           rw (e, y) l
 

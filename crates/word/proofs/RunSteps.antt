@@ -73,7 +73,8 @@ module _ {s : List ℕ} {at p b : ℕ} {t : Bool} where
 pub past_is : {s : List ℕ} {g : Rule} {at k p : ℕ} → Past p s g at k → Leaf nothing (Got p 0) s g at k
 past_is {s} {g} {at} {k} {p} l = leaf_done nothing s g at k p 0 l.is refl l.far
 
-module _ {s : List ℕ} {at b : ℕ} (y : b ≡ byte_at s at) {t : Bool} (i : t ≡ opens_name b) (x : t ≡ false) {r : Ans} where
+module _ {s : List ℕ} {at b : ℕ} (y : b ≡ byte_at s at) {t : Bool} (i : t ≡ opens_name b)
+    (x : t ≡ false) {r : Ans} where
   -- A name inside braces does not begin here.
   pub word_fails : Leaf nothing r s need at 0 → Leaf nothing r s word at 1
   unfolding word

@@ -1,9 +1,16 @@
-use Rattle.reader.proofs.Sets.{args_set, arms_set, asked, attr_asked, attr_set, attrs_set, call_set, child_asked, child_set, children_asked, children_set, choice_set, cond_asked, cond_set, content_asked, content_set, either_set, element_asked, element_set, expr_set, fragment_asked, fragment_set, group_set, held_set, in_attr_set, in_held_set, in_spread_set, in_tag_asked, in_tag_set, joins_set, lone_asked, lone_set, loop_asked, more_set, named_asked, named_set, node_asked, postfix_set, prefix_set, primary_asked, primary_set, spread_set, tail_asked, tail_set, tails_set, unary_asked, unary_set, value_asked, value_set}
+use Rattle.reader.proofs.Sets.{args_set, arms_set, asked, attr_asked, attr_set, attrs_set, call_set, child_asked}
+use Rattle.reader.proofs.Sets.{child_set, children_asked, children_set, choice_set, cond_asked, cond_set, content_asked}
+use Rattle.reader.proofs.Sets.{content_set, either_set, element_asked, element_set, expr_set, fragment_asked}
+use Rattle.reader.proofs.Sets.{fragment_set, group_set, held_set, in_attr_set, in_held_set, in_spread_set, in_tag_asked}
+use Rattle.reader.proofs.Sets.{in_tag_set, joins_set, lone_asked, lone_set, loop_asked, more_set, named_asked}
+use Rattle.reader.proofs.Sets.{named_set, node_asked, postfix_set, prefix_set, primary_asked, primary_set, spread_set}
+use Rattle.reader.proofs.Sets.{tail_asked, tail_set, tails_set, unary_asked, unary_set, value_asked, value_set}
 use mathlib.Core.Path.{refl}
 use native.Mathlib.Omega.{arith}
 use Rattle.table.proofs.Asked.{made_inside}
 use Rattle.reader.proofs.Steps.{made_leaf_room}
-use Rattle.reader.proofs.Asked.{brace_inside, bracket_inside, paren_inside, dash_inside, less_inside, question_inside, fragment_wide, fragment_behind, fragment_shut}
+use Rattle.reader.proofs.Asked.{brace_inside, bracket_inside, paren_inside, dash_inside, less_inside, question_inside}
+use Rattle.reader.proofs.Asked.{fragment_wide, fragment_behind, fragment_shut}
 use Rattle.reader.proofs.+reading.Goals as goal
 
 pub args-cond-r-requires : goal.args-cond-r-requires
@@ -568,7 +575,8 @@ pub cond-choice-r3-requires : goal.cond-choice-r3-requires
 cond-choice-r3-requires t c = (
   search cond_asked,
   (
-    made_leaf_room c.requires c.either-r.ensures c.in-Got.is c.skip_blanks-r2.ensures c.in-Got-r2.is (omega arith) refl refl
+    made_leaf_room c.requires c.either-r.ensures c.in-Got.is c.skip_blanks-r2.ensures c.in-Got-r2.is
+        (omega arith) refl refl
         c.behind.ensures,
     search question_inside,
   ),
@@ -842,7 +850,12 @@ pub frag-overflow_add-k : goal.frag-overflow_add-k
 frag-overflow_add-k t c = search fragment_asked
 
 pub frag-shut_fragment-requires : goal.frag-shut_fragment-requires
-frag-shut_fragment-requires t c = (search fragment_wide, search fragment_behind, search fragment_shut, search fragment_asked)
+frag-shut_fragment-requires t c = (
+  search fragment_wide,
+  search fragment_behind,
+  search fragment_shut,
+  search fragment_asked,
+)
 
 pub frag-shape_of-t : goal.frag-shape_of-t
 frag-shape_of-t t c = search fragment_asked

@@ -1,4 +1,5 @@
--- A level of depth counts 16: between two readers that call each other with the same depth, the measure falls by one or more.
+-- A level of depth counts 16: between two readers that call each other with the same depth, the measure falls by one
+-- or more.
 use Prim.Native.Nat.{◌+◌, ◌*◌, ◌-◌}
 use lib.ListN.{length}
 use Rattle.rules.specs.Rule.{many}
