@@ -2,14 +2,11 @@
 use mathlib.Core.Path.{◌≡◌, refl, sym, subst}
 use mathlib.Core.Bool.{Bool, true, false}
 use mathlib.Core.List.{List, [], ◌∷◌}
-use Prim.Native.Nat.{ℕ, ◌*◌, ◌+◌, ◌/◌, ◌≤◌, ◌<◌}
-use lib.ListN.{length, get_or}
-use borrow.Author.Rules.{rules}
-use Rattle.rules.specs.Record.{row_words}
-use Rattle.jsx.specs.Table.{Part, no_part, span_part, record_part}
-use Rattle.part.proofs.Parts.{span_turned, span_past, span_is, record_from_count, record_past, record_is}
-use Rattle.stage.specs.declared.Reply.{Reply}
-use Rattle.stage.specs.declared.Reply.TheVariants.{Accepted, Refused}
+use Prim.Native.Nat.{ℕ}
+use Rattle.std.specs.Prelude.{Option, Some, None}
+use Rattle.jsx.specs.Table.{Part, no_part}
+use Rattle.part.specs.Contract.{Placed, part_of}
+use Rattle.stage.specs.Reply.{Reply, Accepted, Refused}
 use Rattle.abi.specs.Said.{Says, SaysPart}
 
 -- ---- replies
@@ -29,48 +26,19 @@ pub say_refused : {x : Reply} {n a b c d n₁ a₁ b₁ c₁ d₁ : ℕ} → x �
     → Says x n₁ (a₁ ∷ b₁ ∷ c₁ ∷ d₁ ∷ [])
 say_refused e en ea eb ec ed = rw (e, en, ea, eb, ec, ed) (record { number = refl; is = refl })
 
-pub ruleset say_steps = (rules, say_accepted, say_refused)
-
 -- ---- parts
 
-says_as : {p q : Part} {r : Bool} {part : List ℕ} → SaysPart p r part → q ≡ p → SaysPart q r part
-says_as {r = r} {part} x e = subst (λ (p : Part). SaysPart p r part) (sym e) x
+-- What says the part that the places say says the part that is there.
+pub says_placed : {s : List ℕ} {p : Part} {o : Option (ℕ × ℕ)} {r : Bool} {part : List ℕ} → Placed s p o
+    → SaysPart (part_of o) r part
+    → SaysPart p r part
+says_placed {r = r} {part} h x = subst (λ (p : Part). SaysPart p r part) (sym h.is) x
 
--- No part.
-says_none : SaysPart no_part false (0 ∷ 0 ∷ [])
+-- A part that is found, by its places,
+pub says_some : (a z : ℕ) → SaysPart (part_of (Some (a, z))) true (a ∷ z ∷ [])
+says_some a z = record { tells = refl; is = refl }
+
+-- and one that is not.
+pub says_none : SaysPart (part_of None) false (0 ∷ 0 ∷ [])
 unfolding no_part
 says_none = record { tells = refl; is = refl }
-
-module _ (s : List ℕ) (a z : ℕ) where
-  -- A span that ends before it starts,
-  pub part_turned : z < a → SaysPart (span_part s a z) false (0 ∷ 0 ∷ [])
-  part_turned h = says_as says_none (span_turned s a z h)
-
-  -- or past the input,
-  pub part_past : a ≤ z → length s < z → SaysPart (span_part s a z) false (0 ∷ 0 ∷ [])
-  part_past h l = says_as says_none (span_past s a z h l)
-
-  -- and any other.
-  pub part_is : a ≤ z → z ≤ length s → SaysPart (span_part s a z) true (a ∷ z ∷ [])
-  part_is h l = says_as (record { tells = refl; is = refl }) (span_is s a z h l)
-
-module _ (s t : List ℕ) (m k : ℕ) where
-  -- A record from the count on,
-  pub record_uncounted : m ≤ k → SaysPart (record_part s t m k) false (0 ∷ 0 ∷ [])
-  record_uncounted h = says_as says_none (record_from_count s t m k h)
-
-  -- or past the table,
-  pub record_no_row : k < m → length t / row_words ≤ k → SaysPart (record_part s t m k) false (0 ∷ 0 ∷ [])
-  record_no_row h l = says_as says_none (record_past s t m k h l)
-
-  -- and any other, as its row says.
-  pub record_row : {a z a₁ z₁ : ℕ} {r : Bool} {part : List ℕ} → k < m → k < length t / row_words
-      → a ≡ get_or t (row_words * k + 1) 0
-      → z ≡ get_or t (row_words * k + 2) 0
-      → SaysPart (span_part s a₁ z₁) r part
-      → a₁ ≡ a
-      → z₁ ≡ z
-      → SaysPart (record_part s t m k) r part
-  record_row h l p q x e f = says_as (rw (e, f) at x) (record_is s t m k h l p q)
-
-pub ruleset part_steps = (rules, part_turned, part_past, part_is, record_uncounted, record_no_row, record_row)

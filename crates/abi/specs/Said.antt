@@ -2,8 +2,7 @@
 use Rattle.std.specs.Prelude.{ℕ, ◌≡◌, Bool, List, [], ◌∷◌}
 use Rattle.rules.specs.Rule.{Rule}
 use Rattle.jsx.specs.Table.{Part}
-use Rattle.stage.specs.declared.Reply.{Reply}
-use Rattle.stage.specs.declared.Reply.TheVariants.{Accepted, Refused}
+use Rattle.stage.specs.Reply.{Reply, Accepted, Refused}
 use Rattle.stage.specs.Call.{Checks, Reads}
 
 -- D: "Accepted is number 0."

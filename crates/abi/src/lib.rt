@@ -5,28 +5,24 @@
 
 ghost use Rattle.jsx.specs.Reading.{stage as stage_rule, run as run_rule};
 ghost use Rattle.jsx.specs.Table.{span_part, record_part};
+ghost use Rattle.part.specs.Contract.{part_of};
+ghost use Rattle.stage.specs.Call.{replied};
 ghost use Rattle.abi.specs.Said.{Says, SaysOfCheck, SaysOfRead, SaysPart};
 
-use stage::Reply;
-use table::ROW_WORDS;
-
-// The places of a record's start and end among its words.
-const START: usize = 1;
-
-const END: usize = 2;
+use lex::refusal::Refusal;
 
 // A reply's number, with its values stored.
-fn say(r: Reply, values: &mut [usize; 4]) -> u32
-    ensures { Says r result values.new }
+fn say(r: Result<usize, Refusal>, values: &mut [usize; 4]) -> u32
+    ensures { Says (replied r) result values.new }
 {
     match r {
-        Reply::Accepted(m) => {
+        Ok(m) => {
             *values = [m, 0, 0, 0];
             0
         }
-        Reply::Refused(n, a, b, c, d) => {
-            *values = [a, b, c, d];
-            n
+        Err(e) => {
+            *values = [e.first.start, e.first.end, e.second.start, e.second.end];
+            e.reason.number()
         }
     }
 }
@@ -63,20 +59,20 @@ pub extern "C" fn lorikvar_read_run(s: &[u8], t: &mut [u32], values: &mut [usize
     say(stage::read_run(s, t), values)
 }
 
-// A part of the input, as its start and end, and whether it is in range.
-fn say_part(s: &[u8], start: usize, end: usize, part: &mut [usize; 2]) -> bool
-    ensures { SaysPart (span_part s.now start end) result part.new }
+// Whether there is such a part, with its start and end stored: 0 and 0 where there is none.
+fn say_part(place: Option<(usize, usize)>, part: &mut [usize; 2]) -> bool
+    ensures { SaysPart (part_of place) result part.new }
 {
-    if end < start {
-        *part = [0, 0];
-        return false;
+    match place {
+        Some((start, end)) => {
+            *part = [start, end];
+            true
+        }
+        None => {
+            *part = [0, 0];
+            false
+        }
     }
-    if s.len() < end {
-        *part = [0, 0];
-        return false;
-    }
-    *part = [start, end];
-    true
 }
 
 // The bytes from start to end, where that is in range.
@@ -89,7 +85,7 @@ pub extern "C" fn lorikvar_span_bytes(
 ) -> bool
     ensures { SaysPart (span_part s.now start end) result part.new }
 {
-    say_part(s, start, end, part)
+    say_part(part::span(s, start, end), part)
 }
 
 // The bytes of a record, by its number, of a table that is lent with its count, where there is such a record and its span
@@ -104,15 +100,5 @@ pub extern "C" fn lorikvar_record_bytes(
 ) -> bool
     ensures { SaysPart (record_part s.now t.now count number) result part.new }
 {
-    if count <= number {
-        *part = [0, 0];
-        return false;
-    }
-    if t.len() / ROW_WORDS <= number {
-        *part = [0, 0];
-        return false;
-    }
-    let start = table::table_word(t, ROW_WORDS * number + START);
-    let end = table::table_word(t, ROW_WORDS * number + END);
-    say_part(s, start as usize, end as usize, part)
+    say_part(part::record(s, t, count, number), part)
 }

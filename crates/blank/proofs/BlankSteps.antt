@@ -2,11 +2,12 @@
 use mathlib.Core.Path.{◌≡◌, refl, sym, ap, ◌∙◌}
 use mathlib.Core.Bool.{Bool, true, false, not}
 use mathlib.Core.List.{List}
+use Rattle.std.specs.Prelude.{Option, None, Some}
 use Prim.Native.Nat.{ℕ, suc, ◌+◌, ◌-◌, ◌*◌, ◌^◌, ◌≤◌, ◌<◌}
 use Prim.Native.Char.{code}
 use native.Mathlib.Omega.{arith}
-use lib.Dec.{lit<, ltb}
-use lib.ListN.{length}
+use lib.Dec.{ltb}
+use lib.ListN.{length, get_or-eq_default}
 use borrow.Author.Tests.{ltb-true, not-false}
 use Rattle.rules.specs.Forest.{nil, byte}
 use Rattle.rules.specs.Parse.{pick, byte_at, code_at, read_at}
@@ -14,8 +15,8 @@ use Rattle.rules.proofs.Run.{never, both}
 use Rattle.jsx.specs.Byte.{is, ◌or◌, ◌‥◌}
 use Rattle.jsx.specs.Blank.{blank_char, comment, line_comment, blank, blanks, pass}
 use Rattle.lex.specs.Contract.{nothing, Leaf, Past}
-use Rattle.lex.specs.declared.Ans.{Ans}
-use Rattle.lex.specs.declared.Ans.TheVariants.{Got, No}
+use Rattle.lex.specs.Answer.{Ans, Got, No}
+use Rattle.lex.proofs.Results.{results}
 use Rattle.lex.proofs.Laws as Lex
 use Rattle.lex.proofs.Laws.{before_end}
 use Rattle.lex.proofs.Turns.{Turns, turns_begin, turns_more}
@@ -43,22 +44,33 @@ module _ (s : List ℕ) (p : ℕ) where
       let i = character_inside s p k in
       record { coded = t; wide = e; some = omega arith; inside = omega arith }
 
-  -- Its width is not 0; where none stands, it is.
-  here : {n : ℕ} → n ≡ blank_width s p → (n ≡ 0 → ⊥) → Blank n
-  unfolding blank_width
-  here {n} e k = go (blank_char (code_at s p)) refl
-    where
-      go : (t : Bool) → blank_char (code_at s p) ≡ t → Blank n
-      go true x = blank_of x (e ∙ rw x)
-      go false x = absurd (k (e ∙ rw x))
+  -- It has a width; where none stands, there is none.
+  module _ {w : Option ℕ} (e : w ≡ blank_width s p) where
+    here : {n : ℕ} → w ≡ Some n → Blank n
+    unfolding blank_width
+    here {n} k = go (blank_char (code_at s p)) refl (sym e ∙ k)
+      where
+        go : (t : Bool) → blank_char (code_at s p) ≡ t → pick t (Some (width_of (byte_at s p))) None ≡ Some n → Blank n
+        go true x h = blank_of x (cc)
+        go false x h = cc
 
-  none : {n : ℕ} → n ≡ blank_width s p → n ≡ 0 → blank_char (code_at s p) ≡ false
-  unfolding blank_width
-  none e k = go (blank_char (code_at s p)) refl
+    none : w ≡ None → blank_char (code_at s p) ≡ false
+    unfolding blank_width
+    none k = go (blank_char (code_at s p)) (sym e ∙ k)
+      where
+        go : (t : Bool) → pick t (Some (width_of (byte_at s p))) None ≡ None → t ≡ false
+        go true h = cc
+        go false h = refl
+
+  -- At the end none stands.
+  none_at_end : length s ≤ p → blank_char (code_at s p) ≡ false
+  none_at_end h = go (blank_char (code_at s p)) refl
     where
       go : (t : Bool) → blank_char (code_at s p) ≡ t → blank_char (code_at s p) ≡ false
-      go true x = let b = blank_of {n = width_of (byte_at s p)} x refl in
-          let z : width_of (byte_at s p) ≡ 0 = sym (e ∙ rw x) ∙ k in
+      go true x =
+          let b = blank_of {n = width_of (byte_at s p)} x refl in
+          let o = b.some in
+          let i = b.inside in
           absurd (omega arith)
       go false x = x
 
@@ -90,6 +102,12 @@ module _ {s : List ℕ} {at p : ℕ} (v : Turns s blank 0 at p) where
   unfolding blanks
   blanks_behind l = Lex.leaf_behind nothing blanks at 0 v.acc (λ a o. refl) l v.so (omega (arith, v.past))
 
+  -- The input ends.
+  pub blanks_input : length s ≤ p → Leaf nothing (Got p 0) s blanks at 0
+  blanks_input h =
+      let e : byte_at s p ≡ 256 = get_or-eq_default s 256 h in
+      Laws.blanks_end v (Laws.blank_other s (suc (length s)) 0 p (none_at_end s p h) (rw e))
+
   module _ {b : ℕ} (y : b ≡ byte_at s p) where
     -- A byte that is a blank by itself.
     pub byte_goes_on : {t : Bool} → t ≡ blank_byte b → not t ≡ false → Turns s blank 0 at (p + 1)
@@ -102,13 +120,13 @@ module _ {s : List ℕ} {at p : ℕ} (v : Turns s blank 0 at p) where
           let o = Laws.token_other s p (Lex.tested (0x21 ‥ 0x7F) y i z) in
           Laws.blanks_end v (Laws.blank_other s (suc (length s)) 0 p o (Lex.byte_not y x))
 
-      module _ {n : ℕ} (i : n ≡ blank_width s p) where
+      module _ {w : Option ℕ} (i : w ≡ blank_width s p) where
         -- No blank.
-        pub blanks_stop : n ≡ 0 → Leaf nothing (Got p 0) s blanks at 0
+        pub blanks_stop : w ≡ None → Leaf nothing (Got p 0) s blanks at 0
         blanks_stop z = Laws.blanks_end v (Laws.blank_other s (suc (length s)) 0 p (none s p i z) (Lex.byte_not y x))
 
         -- A blank.
-        pub blank_goes_on : (n ≡ 0 → ⊥) → Turns s blank 0 at (p + n)
+        pub blank_goes_on : {n : ℕ} → w ≡ Some n → Turns s blank 0 at (p + n)
         blank_goes_on z = goes_on (here s p i z)
 
     module _ (x : b ≡ code "/") {c : ℕ} (y₂ : c ≡ byte_at s (p + 1)) where
@@ -168,18 +186,9 @@ pass_is {s} {at} h l =
 
 -- ---- what is asked
 
-module _ (s : List ℕ) (p : ℕ) {b : ℕ} (y : b ≡ byte_at s p) {t : Bool} (i : t ≡ blank_byte b) (x : not t ≡ false) where
-  -- A blank byte stands within the input.
-  pub byte_inside : p + 1 ≤ length s
-  byte_inside = (alone s p y i (not-false t x)).inside
-
-  -- Behind it is nearer to the end.
-  pub byte_nearer : length s - (p + 1) < length s - p
-  byte_nearer = let o = byte_inside in omega arith
-
-module _ (s : List ℕ) (p : ℕ) {n : ℕ} (i : n ≡ blank_width s p) (x : n ≡ 0 → ⊥) where
+module _ (s : List ℕ) (p : ℕ) {w : Option ℕ} (i : w ≡ blank_width s p) {n : ℕ} (x : w ≡ Some n) where
   -- A blank stands within the input.
-  pub blank_inside : p + n ≤ length s
+  blank_inside : p + n ≤ length s
   blank_inside = (here s p i x).inside
 
   -- The sum that passes it fits.
@@ -190,28 +199,12 @@ module _ (s : List ℕ) (p : ℕ) {n : ℕ} (i : n ≡ blank_width s p) (x : n �
   pub blank_nearer : length s - (p + n) < length s - p
   blank_nearer = let h = here s p i x in let o = h.inside in let w = h.some in omega arith
 
-module _ (s : List ℕ) (p : ℕ) {c : ℕ} (y : c ≡ byte_at s (p + 1)) where
-  -- `/*` stands within the input.
-  pub comment_asked : c ≡ code "*" → p + 2 ≤ length s
-  comment_asked w = let o = before_end s (p + 1) (code "*") (sym y ∙ w) (lit< tt) in omega arith
-
-  -- So does `//`.
-  pub line_asked : c ≡ code "/" → p + 2 ≤ length s
-  line_asked w = let o = before_end s (p + 1) (code "/") (sym y ∙ w) (lit< tt) in omega arith
-
--- Behind a comment is nearer to the end.
-pub comment_nearer : {s : List ℕ} {p q j : ℕ} {r : Ans} → Leaf nothing r s comment p 4 → r ≡ Got q j
-    → length s - q < length s - p
-comment_nearer l h = let f = l.far _ _ h in omega arith
-
--- Behind a line comment is nearer to the end.
-pub line_nearer : {s : List ℕ} {p q : ℕ} → Past q s line_comment p 2 → length s - q < length s - p
-line_nearer l = let f = l.far in omega arith
-
 pub ruleset blank_steps = (
+  results,
   blanks_begin,
   blanks_behind,
   byte_goes_on,
+  blanks_input,
   token_stops,
   blanks_stop,
   blank_goes_on,

@@ -10,7 +10,7 @@ use mir.Val.{Fits}
 use lib.Bits.{bit_or}
 use lib.Dec.{leb, lit<}
 use lib.ListN.{length, get_or}
-use borrow.Author.Tests.{not-true, not-false, leb-false, eq-eqb, ne_eqb}
+use borrow.Author.Tests.{not-true, not-false, leb-false, ne_eqb}
 use Rattle.rules.specs.Forest.{nil, byte}
 use Rattle.rules.specs.Parse.{got, pick, byte_at, opens, parsed}
 use Rattle.rules.proofs.Run.{never}
@@ -18,7 +18,8 @@ use Rattle.jsx.specs.Refusal.{comment_never_closed}
 use Rattle.jsx.specs.Byte.{one_of, bytes_of, is}
 use Rattle.jsx.specs.Blank.{line_terminator, comment_turn, comment, line_turn, line_comment}
 use Rattle.lex.specs.Contract.{nothing, Leaf, Past}
-use Rattle.lex.specs.declared.Ans.TheVariants.{Got, No}
+use Rattle.lex.specs.Answer.{Got, No}
+use Rattle.lex.proofs.Results.{results}
 use Rattle.lex.proofs.Laws as Lex
 use Rattle.lex.proofs.Ranges.{each, each_passes}
 use Rattle.lex.proofs.Turns.{Turns, turns_begin, turns_more, turns_end, turns_no}
@@ -26,7 +27,6 @@ use Rattle.lanes.specs.Lanes.{Marked, only, beyond}
 use Rattle.lanes.specs.First.{First}
 use Rattle.lanes.proofs.Over.{turns_over}
 use Rattle.lanes.proofs.MaskSteps.{both_marked}
-use Rattle.lanes.proofs.ScanSteps.{scan_steps}
 use Rattle.character.proofs.CodeSteps.{code_alone}
 use Rattle.blank.specs.Here.{line_ends, line_stop}
 use Rattle.blank.proofs.Laws
@@ -75,23 +75,6 @@ module _ (s : List ℕ) (each : (k : ℕ) → Fits w8 (get_or s k 0)) (at : ℕ)
           let e = Laws.comment_step s (suc (length s)) at p (Lex.byte_not y x) (sym i ∙ z) o in
           turns_over (only (code "*")) (turns_more v e (omega arith) (omega arith)) l.clear no_star
 
--- What stands behind a byte of the comment is asked for, and nearer to the end.
-module _ {s : List ℕ} {e at p b : ℕ} (v : Turns s comment_turn e at p) (y : b ≡ byte_at s p) (x : b ≡ 256 → ⊥) where
-  pub star_asked : p + 1 ≤ length s
-  star_asked = let o = Lex.not_end s p (λ e. x (y ∙ e)) v.inside in omega arith
-
-  pub star_nearer : {q : ℕ} → First (only (code "*")) s (p + 1) q → length s - q < length s - p
-  star_nearer l =
-      let o = star_asked in
-      let i = l.clear.past in
-      let j = l.clear.inside in
-      omega arith
-
--- There is room for `*/`.
-pub comment_room : {s : List ℕ} {e at p : ℕ} {t : Bool} → Turns s comment_turn e at p → t ≡ opens s (bytes_of "*/") p
-    → t ≡ true → p + 2 ≤ length s
-comment_room {s} {p = p} v i z = Laws.two_inside s p (code "*") (code "/") (lit< tt) (sym i ∙ z)
-
 -- ---- `// ..`
 
 -- What stops no scan of a line ends none: tried of each byte of ASCII.
@@ -125,18 +108,6 @@ plain_here s p h =
     let k = plain_low (byte_at s p) h in
     let e = code_alone s p refl k in
     rw (ne_eqb (byte_at s p) 256 (λ z. omega arith), ← e) (plain_not (byte_at s p) h)
-
-module _ (b : ℕ) where
-  -- A byte that stops one: LF, CR, or one beyond ASCII.
-  pub stop_lf : b ≡ code "\n" → true ≡ line_stop b
-  stop_lf h = sym (rw (eq-eqb b (code "\n") h))
-
-  module _ (n : b ≡ code "\n" → ⊥) where
-    pub stop_cr : b ≡ code "\r" → true ≡ line_stop b
-    stop_cr h = sym (rw (ne_eqb b (code "\n") n, eq-eqb b (code "\r") h))
-
-    pub stop_last : (b ≡ code "\r" → ⊥) → leb 0x80 b ≡ line_stop b
-    stop_last m = sym (rw (ne_eqb b (code "\n") n, ne_eqb b (code "\r") m))
 
 -- The lanes that stop one.
 pub stops_marked : {w u v x : ℕ} → Marked (only (code "\n")) w u → Marked (only (code "\r")) w v → Marked beyond w x
@@ -176,7 +147,7 @@ module _
 module _
     {s : List ℕ} {e at p : ℕ} {t : Bool} (v : Turns s line_turn e at p) (i : t ≡ line_ends s p) (x : not t ≡ true)
   where
-    pub line_asked_on : p + 1 ≤ length s
+    line_asked_on : p + 1 ≤ length s
     line_asked_on = let o = Laws.line_inside s p (sym i ∙ not-true t x) v.inside in omega arith
 
     pub line_turn_nearer : length s - (p + 1) < length s - p
@@ -190,10 +161,7 @@ module _
         omega arith
 
 pub ruleset comment_steps = (
-  scan_steps,
-  stop_lf,
-  stop_cr,
-  stop_last,
+  results,
   stops_marked,
   comment_begins,
   comment_open,

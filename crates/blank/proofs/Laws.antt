@@ -17,8 +17,7 @@ use Rattle.jsx.specs.Byte.{one_of, bytes_of, is, end, ◌‥◌, character}
 use Rattle.jsx.specs.Blank.{space_separator, white_space, line_terminator, blank_char, comment_turn, comment, line_turn}
 use Rattle.jsx.specs.Blank.{line_comment, blank, blanks, pass}
 use Rattle.lex.specs.Contract.{out_of, nothing, Leaf}
-use Rattle.lex.specs.declared.Ans.{Ans}
-use Rattle.lex.specs.declared.Ans.TheVariants.{Got, No}
+use Rattle.lex.specs.Answer.{Ans, Got, No}
 use Rattle.lex.proofs.Laws as Lex
 use Rattle.lex.proofs.Laws.{before_end}
 use Rattle.lex.proofs.Ranges.{each, each_passes}

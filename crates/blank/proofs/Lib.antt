@@ -8,5 +8,5 @@ pub mod Laws
 pub mod CommentSteps
 -- Blanks and comments.
 pub mod BlankSteps
--- What calls, sums and loops ask: one set.
+-- What sums and loops ask: one set.
 pub mod Asked

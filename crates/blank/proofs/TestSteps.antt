@@ -2,15 +2,16 @@
 use mathlib.Core.Path.{◌≡◌, refl, sym, ap, ◌∙◌}
 use mathlib.Core.Bool.{Bool, true, false}
 use mathlib.Core.List.{List}
+use Rattle.std.specs.Prelude.{None, Some}
 use mathlib.Core.Logic.{◌⊎◌, inl, inr}
 use Prim.Native.Nat.{ℕ, ◌+◌, ◌≤◌, ◌<◌}
 use Prim.Native.Char.{code}
 use native.Mathlib.Omega.{arith}
 use native.Mathlib.Decide.{dec_lt}
 use lib.Dec.{ltb, eqb}
-use borrow.Author.Tests.{lt-ltb, le-ltb, le-leb, lt-leb, ne_eqb, eq-eqb}
+use borrow.Author.Tests.{lt-ltb, le-ltb, ne_eqb, eq-eqb}
 use Rattle.rules.specs.Parse.{pick, byte_at, code_at}
-use Rattle.jsx.specs.Byte.{one_of, ◌‥◌}
+use Rattle.jsx.specs.Byte.{one_of}
 use Rattle.jsx.specs.Blank.{space_separator, white_space, line_terminator, blank_char}
 use Rattle.lex.proofs.Laws.{is_first, is_second}
 use Rattle.lex.proofs.Ranges.{each, each_passes}
@@ -196,29 +197,17 @@ module _ {b : ℕ} where
       pub byte_over : 1 + code "\r" ≤ b → false ≡ blank_byte b
       byte_over k = none_byte (λ i j. omega arith)
 
-  -- Not behind the space.
-  pub token_under : b ≤ code " " → ltb (code " ") b ≡ (0x21 ‥ 0x7F) b
-  token_under h = le-ltb 32 b h ∙ sym (rw (lt-leb 0x21 b (omega arith)))
-
-  -- Behind it: ASCII or not.
-  pub token_from : code " " < b → ltb b 0x80 ≡ (0x21 ‥ 0x7F) b
-  token_from h = go (dec_lt b 0x80)
-    where
-      go : Dec (b < 0x80) → ltb b 0x80 ≡ (0x21 ‥ 0x7F) b
-      go (yes k) = lt-ltb b 0x80 k ∙ sym (rw (le-leb 0x21 b (omega arith), le-leb b 0x7F (omega arith)))
-      go (no k) = le-ltb b 0x80 (omega arith) ∙ sym (rw (le-leb 0x21 b (omega arith), lt-leb b 0x7F (omega arith)))
-
 -- ---- what stands here
 
 module _ (s : List ℕ) (at : ℕ) where
   module _ {c : ℕ} (y : c ≡ code_at s at) {t : Bool} (i : t ≡ blank_char c) where
     -- A blank.
-    pub width_here : t ≡ true → {b r : ℕ} → b ≡ byte_at s at → r ≡ width_of b → r ≡ blank_width s at
+    pub width_here : t ≡ true → {b r : ℕ} → b ≡ byte_at s at → r ≡ width_of b → Some r ≡ blank_width s at
     unfolding blank_width
-    width_here x z e = e ∙ ap width_of z ∙ sym (rw (sym (ap blank_char y) ∙ sym i ∙ x))
+    width_here x z e = ap Some (e ∙ ap width_of z) ∙ sym (rw (sym (ap blank_char y) ∙ sym i ∙ x))
 
     -- None.
-    pub width_none : t ≡ false → 0 ≡ blank_width s at
+    pub width_none : t ≡ false → None ≡ blank_width s at
     unfolding blank_width
     width_none x = sym (rw (sym (ap blank_char y) ∙ sym i ∙ x))
 
@@ -256,8 +245,6 @@ pub ruleset test_steps = (
   byte_under,
   byte_low,
   byte_over,
-  token_under,
-  token_from,
   is_first,
   is_second,
   width_here,

@@ -1,5 +1,5 @@
 -- What stands at a place: a blank, by its bytes, or the end of a line.
-use Rattle.std.specs.Prelude.{Bool, true, false, List, ℕ, ltb}
+use Rattle.std.specs.Prelude.{Bool, true, false, List, ℕ, ltb, Option, None, Some}
 use Rattle.rules.specs.Rule.{Test}
 use Rattle.rules.specs.Parse.{pick, byte_at, code_at}
 use Rattle.jsx.specs.Byte.{is, end}
@@ -11,9 +11,9 @@ use Rattle.character.specs.Width.{width_of}
 unfoldable pub blank_byte : Test
 blank_byte b = pick (ltb b 0x80) (blank_char b) false
 
--- How many bytes the blank has that stands here; 0 where none does.
-unfoldable pub blank_width : List ℕ → ℕ → ℕ
-blank_width s at = pick (blank_char (code_at s at)) (width_of (byte_at s at)) 0
+-- How many bytes the blank has that stands here, if one does.
+unfoldable pub blank_width : List ℕ → ℕ → Option ℕ
+blank_width s at = pick (blank_char (code_at s at)) (Some (width_of (byte_at s at))) None
 
 -- Whether a `//` comment ends here.
 unfoldable pub line_ends : List ℕ → ℕ → Bool

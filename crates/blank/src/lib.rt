@@ -5,14 +5,13 @@ ghost use Rattle.std.specs.Prelude.{◌≡◌, ◌+◌, ◌<◌, ◌≤◌, leng
 ghost use Rattle.rules.specs.Parse.{code_at};
 ghost use Rattle.jsx.specs.Byte.{is, ◌or◌, ◌‥◌};
 ghost use Rattle.jsx.specs.Blank.{blank_char, line_terminator, comment, line_comment, blanks, pass as pass_rule};
+ghost use Rattle.lex.specs.Answer.{said};
 ghost use Rattle.lex.specs.Contract.{Leaf, Past, nothing};
-ghost use Rattle.lanes.specs.Lanes.{Marked};
-ghost use Rattle.lanes.specs.First.{First};
 ghost use Rattle.blank.specs.Here.{blank_byte, blank_width, line_ends, line_stop};
 
-use lex::Ans;
+use lanes::sought::{Beyond, Only, Sought};
 use lex::bytes::{CR, END, LF, SLASH, SPACE, STAR, TAB};
-use lex::refusal::COMMENT_NEVER_CLOSED;
+use lex::refusal::{Reason, Refusal};
 
 // The first byte beyond ASCII.
 const WIDE: u32 = 0x80;
@@ -21,10 +20,7 @@ const WIDE: u32 = 0x80;
 fn is_blank(b: u32) -> bool
     ensures { result ≡ blank_byte b }
 {
-    match b {
-        TAB..=CR | SPACE => true,
-        _ => false,
-    }
+    matches!(b, TAB..=CR | SPACE)
 }
 
 // A character that is a blank, by its code.
@@ -34,33 +30,28 @@ fn is_blank_char(c: u32) -> bool
     if c < WIDE {
         return is_blank(c);
     }
-    match c {
-        0xA0 | 0x1680 | 0x2000..=0x200A | 0x2028 | 0x2029 | 0x202F | 0x205F | 0x3000 | 0xFEFF => {
-            true
-        }
-        _ => false,
-    }
+    matches!(
+        c,
+        0xA0 | 0x1680 | 0x2000..=0x200A | 0x2028 | 0x2029 | 0x202F | 0x205F | 0x3000 | 0xFEFF
+    )
 }
 
 // LF, CR, U+2028 or U+2029.
 fn ends_line(c: u32) -> bool
     ensures { result ≡ line_terminator c }
 {
-    match c {
-        LF | CR | 0x2028 | 0x2029 => true,
-        _ => false,
-    }
+    matches!(c, LF | CR | 0x2028 | 0x2029)
 }
 
-// How many bytes the blank has that stands here; 0 where none does.
-fn blank_width(s: &[u8], at: usize) -> usize
+// How many bytes the blank has that stands here, if one does.
+fn blank_width(s: &[u8], at: usize) -> Option<usize>
     requires { at ≤ length s.now }
     ensures { result ≡ blank_width s.now at }
 {
     if is_blank_char(character::code_at(s, at)) {
-        return character::width(lex::byte(s, at));
+        return Some(character::width(lex::byte(s, at)));
     }
-    0
+    None
 }
 
 // Whether a `//` comment ends here: at a line terminator, or at the end.
@@ -78,69 +69,37 @@ fn line_ends(s: &[u8], at: usize) -> bool
     ends_line(character::code_at(s, at))
 }
 
-// Past the `/* .. */` that begins here; 17 at its first byte where it is never closed. The number is 0.
-pub fn skip_comment(s: &[u8], at: usize) -> Ans
+// Past the `/* .. */` that begins here; 17 at its first byte where it is never closed.
+pub fn skip_comment(s: &[u8], at: usize) -> Result<usize, Refusal>
     requires { at + 2 ≤ length s.now }
-    ensures { Leaf nothing result s.now comment at 4 }
+    ensures { Leaf nothing (said result) s.now comment at 4 }
 {
-    let mut p = lanes::find(s, at + 2, STAR); // behind `/*`
+    let mut p = lanes::find(s, at + 2, Only(b'*')); // behind `/*`
     while lex::byte(s, p) != END {
         if lex::two_at(s, p, STAR, SLASH) {
-            return Ans::Got(p + 2, 0);
+            return Ok(p + 2);
         }
-        p = lanes::find(s, p + 1, STAR);
+        p = lanes::find(s, p + 1, Only(b'*'));
     }
-    Ans::No(COMMENT_NEVER_CLOSED, at, at, 0, 0)
+    Err(Reason::CommentNeverClosed.at(at))
 }
 
 // A byte at which a look over a line stops: one that ends it, or one beyond ASCII, which may begin what does.
-fn stops_line(b: u32) -> bool
-    ensures { result ≡ line_stop b }
-{
-    if b == LF {
-        return true;
-    }
-    if b == CR {
-        return true;
-    }
-    b >= WIDE
-}
+#[derive(Clone, Copy)]
+struct LineStop;
 
-// The lanes with such a byte.
-fn line_stops(w: u64) -> u64
-    ensures { Marked line_stop w result }
-{
-    lanes::equal(w, LF) | (lanes::equal(w, CR) | lanes::beyond_ascii(w))
-}
+impl Sought for LineStop {
+    ghost test = { λ it. line_stop };
 
-fn find_line_stop_rest(s: &[u8], at: usize) -> usize
-    requires { at ≤ length s.now }
-    ensures { First line_stop s.now at result }
-{
-    let mut p = at;
-    while p < s.len() {
-        if stops_line(lex::byte(s, p)) {
-            return p;
-        }
-        p = p + 1;
-    }
-    p
-}
+    const PAIRS: bool = false;
 
-// The first such byte from here on, or the end.
-fn find_line_stop(s: &[u8], at: usize) -> usize
-    requires { at ≤ length s.now }
-    ensures { First line_stop s.now at result }
-{
-    let mut p = at;
-    while p + 8 <= s.len() {
-        let h = line_stops(lanes::word(s, p));
-        if h != 0 {
-            return p + lanes::first_lane(h);
-        }
-        p = p + 8;
+    fn has(self, b: u8) -> bool {
+        b == b'\n' || b == b'\r' || b >= 0x80
     }
-    find_line_stop_rest(s, p)
+
+    fn marks(self, w: u64) -> u64 {
+        Only(b'\n').marks(w) | (Only(b'\r').marks(w) | Beyond.marks(w))
+    }
 }
 
 // Past the `//` that begins here, up to what ends its line.
@@ -151,7 +110,7 @@ pub fn skip_line_comment(s: &[u8], at: usize) -> usize
     let mut p = at + 2; // behind `//`
     while !line_ends(s, p) {
         if lex::byte(s, p) < WIDE {
-            p = find_line_stop(s, p + 1);
+            p = lanes::find(s, p + 1, LineStop);
             continue;
         }
         p = p + 1;
@@ -159,18 +118,17 @@ pub fn skip_line_comment(s: &[u8], at: usize) -> usize
     p
 }
 
-// Past every blank and comment from here on; the number is 0.
-fn skip_blanks_and_comments(s: &[u8], at: usize) -> Ans
+// Past every blank and comment from here on.
+fn skip_blanks_and_comments(s: &[u8], at: usize) -> Result<usize, Refusal>
     requires { at ≤ length s.now }
-    ensures { Leaf nothing result s.now blanks at 0 }
+    ensures { Leaf nothing (said result) s.now blanks at 0 }
 {
     let mut p = at;
     loop {
         if lex::byte(s, p) != SLASH {
-            let n = blank_width(s, p);
-            if n == 0 {
-                return Ans::Got(p, 0);
-            }
+            let Some(n) = blank_width(s, p) else {
+                return Ok(p);
+            };
             p = p + n;
             continue;
         }
@@ -180,13 +138,9 @@ fn skip_blanks_and_comments(s: &[u8], at: usize) -> Ans
             continue;
         }
         if c != STAR {
-            return Ans::Got(p, 0);
+            return Ok(p);
         }
-        let r = skip_comment(s, p);
-        let Ans::Got(q, _) = r else {
-            return r;
-        };
-        p = q;
+        p = skip_comment(s, p)?;
     }
 }
 
@@ -194,7 +148,7 @@ fn skip_blanks_and_comments(s: &[u8], at: usize) -> Ans
 fn is_token(b: u32) -> bool
     ensures { result ≡ (0x21 ‥ 0x7F) b }
 {
-    b > SPACE && b < WIDE
+    lex::within(b, 0x21, 0x7F)
 }
 
 // Whether this byte makes a `/` before it a comment.
@@ -204,36 +158,35 @@ fn opens_comment(b: u32) -> bool
     b == STAR || b == SLASH
 }
 
-// Past every blank and comment from here on; the number is 0. Most calls meet no comment and no blank beyond ASCII, and
-// many no blank: the loop over all of them is called only where one may begin, from two places, so that this function
-// is small enough to stand in its callers.
-pub fn skip_blanks(s: &[u8], at: usize) -> Ans
+// Past every blank and comment from here on. Most calls meet no comment and no blank beyond ASCII, and many no blank:
+// the loop over all of them is called only where one may begin, from two places, so that this function is small enough
+// to stand in its callers.
+pub fn skip_blanks(s: &[u8], at: usize) -> Result<usize, Refusal>
     requires { at ≤ length s.now }
-    ensures { Leaf nothing result s.now blanks at 0 }
+    ensures { Leaf nothing (said result) s.now blanks at 0 }
 {
-    let mut p = at;
-    loop {
+    for p in at..s.len() {
         let b = lex::byte(s, p);
         if is_token(b) {
             if b != SLASH {
-                return Ans::Got(p, 0);
+                return Ok(p);
             }
             if opens_comment(lex::byte(s, p + 1)) {
                 return skip_blanks_and_comments(s, p);
             }
-            return Ans::Got(p, 0);
+            return Ok(p);
         }
         if !is_blank(b) {
             return skip_blanks_and_comments(s, p);
         }
-        p = p + 1;
     }
+    Ok(s.len())
 }
 
-// Past the byte here and the blanks behind it; the number is 0.
-pub fn pass(s: &[u8], at: usize) -> Ans
+// Past the byte here and the blanks behind it.
+pub fn pass(s: &[u8], at: usize) -> Result<usize, Refusal>
     requires { at < length s.now }
-    ensures { Leaf nothing result s.now pass_rule at 1 }
+    ensures { Leaf nothing (said result) s.now pass_rule at 1 }
 {
     skip_blanks(s, at + 1)
 }

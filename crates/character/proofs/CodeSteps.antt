@@ -25,11 +25,6 @@ module _ (n : ℕ) (s : List ℕ) (c at : ℕ) {b : ℕ} (y : b ≡ byte_at s at
       unfolding code_on
       bits_go_on e = e ∙ sym (rw (← y, le-ltb b 0x80 h, lt-ltb b 0xC0 k))
 
-      -- It is the last.
-      pub bits_end : c * 0x40 + (b - 0x80) ≡ code_on s 1 c at
-      unfolding code_on
-      bits_end = sym (rw (← y, le-ltb b 0x80 h, lt-ltb b 0xC0 k))
-
 -- ---- the first byte
 
 module _ (s : List ℕ) (at : ℕ) {b : ℕ} (y : b ≡ byte_at s at) where
@@ -83,12 +78,3 @@ module _ (s : List ℕ) (at : ℕ) {b : ℕ} (y : b ≡ byte_at s at) where
                 le-ltb b 0xF0 h₄,
                 le-ltb b 0xF8 k,
               ))
-
-pub ruleset code_steps = (
-  code_alone,
-  code_none,
-  code_two,
-  code_three,
-  code_four,
-  code_over,
-)

@@ -2,11 +2,11 @@
 
 -- The code of a character, byte by byte.
 pub mod CodeSteps
+-- The bytes behind the first, in a loop.
+pub mod BitSteps
 -- How many bytes it has.
 pub mod WidthSteps
 -- What the rule `character` reads.
 pub mod Read
--- What calls ask: one set.
-pub mod Asked
 -- The same bytes elsewhere are the same character.
 pub mod Again

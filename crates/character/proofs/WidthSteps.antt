@@ -30,11 +30,3 @@ module _ {b : ℕ} where
         width_four k =
             sym
             (rw (over 0xC0 0xDF b (omega arith), over 0xE0 0xEF b (omega arith), in_range 0xF0 0xF7 b h₃ (omega arith)))
-
-        -- The others, and the end.
-        pub width_over : 0xF8 ≤ b → 1 ≡ width_of b
-        unfolding width_of
-        width_over k =
-            sym (rw (over 0xC0 0xDF b (omega arith), over 0xE0 0xEF b (omega arith), over 0xF0 0xF7 b (omega arith)))
-
-pub ruleset width_steps = (width_one, width_two, width_three, width_four, width_over)

@@ -7,7 +7,7 @@ use Prim.Native.Nat.{ℕ, suc, ◌+◌, ◌-◌, ◌≤◌}
 use native.Mathlib.Omega.{arith}
 use lib.Dec.{lit<}
 use lib.ListN.{length}
-use borrow.Author.Rules.{rules}
+use Rattle.lex.proofs.Results.{results}
 use borrow.Author.Tests.{eq-eqb, ne_eqb}
 use borrow.Rule.Slice.PartMut.{put_mid, mid_of}
 use mir.Syntax.{w64}
@@ -25,8 +25,7 @@ use Rattle.jsx.specs.Name.{element_name}
 use Rattle.jsx.specs.Tag.{close_name, close_tag}
 use Rattle.jsx.specs.Closing.{TagName, no_name, same_name}
 use Rattle.lex.specs.Contract.{out_of, nothing, expect_byte, Leaf}
-use Rattle.lex.specs.declared.Ans.{Ans}
-use Rattle.lex.specs.declared.Ans.TheVariants.{Got, No}
+use Rattle.lex.specs.Answer.{Ans, Got, No}
 use Rattle.lex.proofs.Laws as Lex
 use Rattle.lex.proofs.Bare.{Flat, flat_got}
 use Rattle.table.specs.Slot.{Seat, seat_inside}
@@ -198,7 +197,7 @@ module _ {s : List ℕ} {o : Opened} {c : ℕ} {q : Seat} {p : ℕ} (op : Openin
           o.at o.start o.end _ op.behind A.ends A.is (sym as_name ∙ e))
           (tag_stored v lent h l₂ h₂ g refl room.inside (rw e₁ at w)))
 
-pub ruleset named_steps = (rules, named_stops, named_end_stops, named_differs, named_made)
+pub ruleset named_steps = (results, named_stops, named_end_stops, named_differs, named_made)
 
 -- ---- close_read
 
@@ -294,7 +293,7 @@ read_bare {s} {o} {c} op l h e x {q} {t} {t'} y =
     (closing_bare s c _ (bare_inside l h z) (bare_whole l h z) o.at o.start o.end _ op.behind A.ends
     (bare_wide l h z) A.is))
 
-pub ruleset read_steps = (rules, read_stops, read_bare)
+pub ruleset read_steps = (results, read_stops, read_bare)
 
 -- ---- close_by_name
 
@@ -322,7 +321,7 @@ module _ {s : List ℕ} {at e c : ℕ} {q : Seat} {p : ℕ} (le : at ≤ e) (roo
         (made_stop s c 3 q 0 t₀ t' refl
         (closing_by_name s c p f _ _ _ B.kind B.extra (flat v) (wide v) B.ends (whole v l h l₂ h₂) at e le))
 
-pub ruleset by_name_steps = (rules, by_name_stops, by_name_end_stops, by_name_is)
+pub ruleset by_name_steps = (results, by_name_stops, by_name_end_stops, by_name_is)
 
 -- ---- close_fragment
 
@@ -344,7 +343,7 @@ module _ {s : List ℕ} {at e c : ℕ} {q : Seat} (le : at ≤ e) (room : Room 3
       (tag_made (closing_plain s c _ (bare_inside l h z) (bare_whole l h z) at (e - at))
       (bare_stored l h z room.inside w))
 
-pub ruleset fragment_steps = (rules, fragment_stops, fragment_made)
+pub ruleset fragment_steps = (results, fragment_stops, fragment_made)
 
 -- ---- what the calls ask
 
@@ -439,7 +438,7 @@ named_closing l h e f g =
     rw (e, f, g) (record { read = made_got l goes_element_name h; inside = (l.of.far _ _ h).1 })
 
 pub ruleset named_asked =
-    (rules, enter_here, leaf_inside, made_inside, name_room, named_words, named_fits, named_opened, named_closing)
+    (results, enter_here, leaf_inside, made_inside, name_room, named_words, named_fits, named_opened, named_closing)
 
 pub ruleset read_asked =
-    (rules, enter_here, leaf_inside, room_here, opening_copy, slashed_asked, name_room, bare_words, bare_fits)
+    (results, enter_here, leaf_inside, room_here, opening_copy, slashed_asked, name_room, bare_words, bare_fits)

@@ -8,14 +8,13 @@ use Prim.Native.Nat.{ℕ, suc, ◌+◌, ◌-◌, ◌≤◌, ◌<◌}
 use native.Mathlib.Omega.{arith}
 use lib.Dec.{lit<}
 use lib.ListN.{length}
-use borrow.Author.Rules.{rules}
+use Rattle.lex.proofs.Results.{results}
 use Rattle.rules.specs.Parse.{byte_at}
 use Rattle.rules.proofs.Run.{never}
 use Rattle.rules.proofs.Moves.{past_got}
 use Rattle.jsx.specs.Name.{same, element_name}
 use Rattle.lex.specs.Contract.{nothing, bytes_from, Leaf}
-use Rattle.lex.specs.declared.Ans.{Ans}
-use Rattle.lex.specs.declared.Ans.TheVariants.{Got, No}
+use Rattle.lex.specs.Answer.{Ans, Got, No}
 use Rattle.lex.proofs.Laws as Lex
 use Rattle.table.proofs.Asked.{reader_asked}
 use Rattle.closing.specs.declared.Opened.{Opened}
@@ -50,7 +49,7 @@ closes_is {s} {c} {a} {n} e₁ h₁ e₂ h₂ e₃ h₃ e = record {
   };
 }
 
-pub ruleset closes_steps = (rules, closes_not, closes_is)
+pub ruleset closes_steps = (results, closes_not, closes_is)
 
 -- ---- `<`, blanks, `/`, blanks
 
@@ -66,7 +65,7 @@ module _ {s : List ℕ} {c : ℕ} {r : Ans} (l : Leaf nothing r s (open_by (code
   unfolding close_open
   less_is h l₂ = two_are l 2 (goes_open (code "<")) h l₂ (omega arith)
 
-pub ruleset less_steps = (rules, less_stops, less_is)
+pub ruleset less_steps = (results, less_stops, less_is)
 
 -- ---- the opening tag's name
 

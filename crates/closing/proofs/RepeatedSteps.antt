@@ -6,7 +6,7 @@ use Prim.Native.Nat.{ℕ, suc, ◌+◌, ◌-◌, ◌<◌}
 use native.Mathlib.Omega.{arith}
 use lib.ListN.{length}
 use lib.Seq.{sets}
-use borrow.Author.Rules.{rules}
+use Rattle.lex.proofs.Results.{results}
 use borrow.Rule.Slice.PartMut.{put_mid, mid_of}
 use Rattle.rules.specs.Forest.{Label, node, Forest, nil, byte, group, direct, width}
 use Rattle.rules.specs.Parse.{got, byte_at, read_at}
@@ -16,7 +16,7 @@ use Rattle.jsx.specs.Kind as Kind
 use Rattle.jsx.specs.Name.{one_name, part}
 use Rattle.jsx.proofs.Again.{one_part_of, one_part_again}
 use Rattle.lex.specs.Contract.{out_of, bytes_from}
-use Rattle.lex.specs.declared.Ans.TheVariants.{Got}
+use Rattle.lex.specs.Answer.{Got}
 use Rattle.lex.proofs.Laws as Lex
 use Rattle.lex.proofs.Bare.{bare_part, flat_got, count_flat}
 use Rattle.table.specs.Slot.{Seat, seat_inside, rows_from}
@@ -178,6 +178,6 @@ module _ {s : List ℕ} {o : Opened} {c : ℕ} (v : Opening s o) (b : Closes s c
       let i = b.inside in
       rw (g, e, f) (omega arith)
 
-pub ruleset same_steps = (rules, same_unstored, same_stored)
+pub ruleset same_steps = (results, same_unstored, same_stored)
 
-pub ruleset same_asked = (rules, enter_here, name_ordered, same_longer, same_room, same_words)
+pub ruleset same_asked = (results, enter_here, name_ordered, same_longer, same_room, same_words)

@@ -4,16 +4,16 @@
 
 ghost use Rattle.std.specs.Prelude.{◌≡◌, ◌+◌, ◌-◌, ◌<◌, ◌≤◌, length};
 ghost use Rattle.jsx.specs.Closing.{no_name};
+ghost use Rattle.lex.specs.Answer.{counted_in, said};
 ghost use Rattle.lex.specs.Contract.{Leaf, nothing};
 ghost use Rattle.table.specs.Slot.{seat};
 ghost use Rattle.table.specs.Reader.{Room, MadeOf};
 ghost use Rattle.tag.specs.Token.{close_open};
 ghost use Rattle.closing.specs.Close.{Closes, Told, Opening, Slashed, closing, closing_named};
 
-use lex::Ans;
 use lex::bytes::{GREATER, LESS, SLASH};
-use lex::kind::CLOSING_TAG;
-use lex::refusal::{ELEMENT_CLOSED_BY_FRAGMENT, FRAGMENT_CLOSED_BY_NAME, NAMES_DIFFER};
+use lex::kind::Kind;
+use lex::refusal::{Reason, Refusal, Span};
 use table::{Node, ROW_WORDS, Slot};
 
 // The name of an opening tag that begins at `at`: from `start` to `end`, in `count` records.
@@ -46,15 +46,21 @@ fn closes(s: &[u8], c: usize, a: usize, n: usize) -> bool
 }
 
 // A closing tag at c that repeats a one-part name byte for byte: its record and its name's, where a table is lent.
-fn close_same(t: &mut [u32], s: &[u8], name: Opened, c: usize, slot: Slot) -> Ans
+fn close_same(
+    t: &mut [u32],
+    s: &[u8],
+    name: Opened,
+    c: usize,
+    slot: Slot,
+) -> Result<(usize, usize), Refusal>
     requires { Opening s.now name × (name.count ≡ 1)
         × Closes s.now c name.start (name.end - name.start) × Room 3 s.now c (seat slot) }
-    ensures { MadeOf result (closing_named s.now name c) s.now c 3 (seat slot) 0
+    ensures { MadeOf (counted_in result) (closing_named s.now name c) s.now c 3 (seat slot) 0
         t.old t.new }
 {
     let e = c + 2 + (name.end - name.start);
     if t.len() == 0 {
-        return Ans::Got(e + 1, 2);
+        return Ok((e + 1, 2));
     }
     let i = table::start(t.len(), ROW_WORDS);
     name::put_name(&mut t[i..], s, slot.inside(), c + 2, e);
@@ -62,81 +68,103 @@ fn close_same(t: &mut [u32], s: &[u8], name: Opened, c: usize, slot: Slot) -> An
         t,
         slot,
         Node {
-            kind: CLOSING_TAG,
+            kind: Kind::ClosingTag,
             start: c,
             end: e + 1,
             extra: 0,
             below: 1,
         },
     );
-    Ans::Got(e + 1, 2)
+    Ok((e + 1, 2))
 }
 
-// `<`, blanks, `/`, blanks; the number is 0.
-fn close_open(s: &[u8], c: usize) -> Ans
+// Past `<`, blanks, `/`, blanks.
+fn close_open(s: &[u8], c: usize) -> Result<usize, Refusal>
     requires { c ≤ length s.now }
-    ensures { Leaf nothing result s.now close_open c 2 }
+    ensures { Leaf nothing (said result) s.now close_open c 2 }
 {
-    let r = tag::open_by(s, c, LESS);
-    let Ans::Got(p, _) = r else {
-        return r;
-    };
+    let p = tag::open_by(s, c, LESS)?;
     tag::open_by(s, p, SLASH)
 }
 
 // The closing tag at c from its name on, at q, and the verdict: 7, or its record and its name's.
-fn close_named(t: &mut [u32], s: &[u8], name: Opened, c: usize, q: usize, slot: Slot) -> Ans
+fn close_named(
+    t: &mut [u32],
+    s: &[u8],
+    name: Opened,
+    c: usize,
+    q: usize,
+    slot: Slot,
+) -> Result<(usize, usize), Refusal>
     requires { Opening s.now name × Room 3 s.now c (seat slot) × Slashed s.now c q }
-    ensures { MadeOf result (closing_named s.now name c) s.now c 3 (seat slot) 0
+    ensures { MadeOf (counted_in result) (closing_named s.now name c) s.now c 3 (seat slot) 0
         t.old t.new }
 {
     let i = table::start(t.len(), ROW_WORDS);
-    let r = name::parse_jsx_element_name(&mut t[i..], s, q, slot.inside());
-    let Ans::Got(f, k) = r else {
-        return r;
-    };
-    let shut = tag::close_by(s, f, GREATER);
-    let Ans::Got(z, _) = shut else {
-        return shut;
-    };
+    let (f, k) = name::parse_jsx_element_name(&mut t[i..], s, q, slot.inside())?;
+    let z = tag::close_by(s, f, GREATER)?;
     if same::jsx_element_name_eq(s, name.start, name.end, q, f) {
         table::put_node(
             t,
             slot,
             Node {
-                kind: CLOSING_TAG,
+                kind: Kind::ClosingTag,
                 start: c,
                 end: z,
                 extra: 0,
                 below: k,
             },
         );
-        return Ans::Got(z, k + 1);
+        return Ok((z, k + 1));
     }
-    Ans::No(NAMES_DIFFER, name.start, name.end, q, f)
+    Err(Reason::NamesDiffer.over_both(
+        Span {
+            start: name.start,
+            end: name.end,
+        },
+        Span { start: q, end: f },
+    ))
 }
 
 // A closing tag at c, read part by part, and the verdict: 9 where it has no name.
-fn close_read(t: &mut [u32], s: &[u8], name: Opened, c: usize, slot: Slot) -> Ans
+fn close_read(
+    t: &mut [u32],
+    s: &[u8],
+    name: Opened,
+    c: usize,
+    slot: Slot,
+) -> Result<(usize, usize), Refusal>
     requires { Opening s.now name × Room 3 s.now c (seat slot) }
-    ensures { MadeOf result (closing_named s.now name c) s.now c 3 (seat slot) 0
+    ensures { MadeOf (counted_in result) (closing_named s.now name c) s.now c 3 (seat slot) 0
         t.old t.new }
 {
-    let r = close_open(s, c);
-    let Ans::Got(q, _) = r else {
-        return r;
-    };
+    let q = close_open(s, c)?;
     if lex::byte(s, q) == GREATER {
-        return Ans::No(ELEMENT_CLOSED_BY_FRAGMENT, name.start, name.end, c, q + 1);
+        return Err(Reason::ElementClosedByFragment.over_both(
+            Span {
+                start: name.start,
+                end: name.end,
+            },
+            Span {
+                start: c,
+                end: q + 1,
+            },
+        ));
     }
     close_named(t, s, name, c, q, slot)
 }
 
 // The closing tag at c of an element, and the verdict on it. A name of one record is first looked for as it stands in
 // the opening tag.
-pub fn close(t: &mut [u32], s: &[u8], name: Opened, c: usize, slot: Slot) -> Ans
+pub fn close(
+    t: &mut [u32],
+    s: &[u8],
+    name: Opened,
+    c: usize,
+    slot: Slot,
+) -> Result<(usize, usize), Refusal>
     requires { Opening s.now name × Room 3 s.now c (seat slot) }
-    ensures { MadeOf result (closing_named s.now name c) s.now c 3 (seat slot) 0
+    ensures { MadeOf (counted_in result) (closing_named s.now name c) s.now c 3 (seat slot) 0
         t.old t.new }
 {
     if name.count == 1 {
@@ -156,45 +184,46 @@ fn close_by_name(
     c: usize,
     q: usize,
     slot: Slot,
-) -> Ans
+) -> Result<(usize, usize), Refusal>
     requires { (at ≤ e) × Room 3 s.now c (seat slot) × Slashed s.now c q }
-    ensures { MadeOf result (closing s.now at (e - at) no_name c) s.now c 3 (seat slot) 0
+    ensures { MadeOf (counted_in result) (closing s.now at (e - at) no_name c) s.now c 3 (seat slot) 0
         t.old t.new }
 {
-    let r = name::parse_jsx_element_name(t, s, q, slot.inside());
-    let Ans::Got(f, _) = r else {
-        return r;
-    };
-    let r2 = tag::close_by(s, f, GREATER);
-    let Ans::Got(_, _) = r2 else {
-        return r2;
-    };
-    Ans::No(FRAGMENT_CLOSED_BY_NAME, at, e, q, f)
+    let (f, _) = name::parse_jsx_element_name(t, s, q, slot.inside())?;
+    tag::close_by(s, f, GREATER)?;
+    Err(Reason::FragmentClosedByName.over_both(
+        Span { start: at, end: e },
+        Span { start: q, end: f },
+    ))
 }
 
 // The closing tag at c of a fragment whose opening tag is from `at` to e, and the verdict on it.
-pub fn close_fragment(t: &mut [u32], s: &[u8], at: usize, e: usize, c: usize, slot: Slot) -> Ans
+pub fn close_fragment(
+    t: &mut [u32],
+    s: &[u8],
+    at: usize,
+    e: usize,
+    c: usize,
+    slot: Slot,
+) -> Result<(usize, usize), Refusal>
     requires { (at ≤ e) × Room 3 s.now c (seat slot) }
-    ensures { MadeOf result (closing s.now at (e - at) no_name c) s.now c 3 (seat slot) 0
+    ensures { MadeOf (counted_in result) (closing s.now at (e - at) no_name c) s.now c 3 (seat slot) 0
         t.old t.new }
 {
-    let r = close_open(s, c);
-    let Ans::Got(q, _) = r else {
-        return r;
-    };
+    let q = close_open(s, c)?;
     if lex::byte(s, q) == GREATER {
         table::put_node(
             t,
             slot,
             Node {
-                kind: CLOSING_TAG,
+                kind: Kind::ClosingTag,
                 start: c,
                 end: q + 1,
                 extra: 0,
                 below: 0,
             },
         );
-        return Ans::Got(q + 1, 1);
+        return Ok((q + 1, 1));
     }
     close_by_name(t, s, at, e, c, q, slot)
 }

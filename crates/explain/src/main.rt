@@ -2,12 +2,11 @@
 // records. Up to 1,048,576 bytes and 131,072 records.
 #![tactic(auto)]
 
-// Standard input, as the system numbers it.
-const STDIN_FILENO: i32 = 0;
+use room::STDIN;
 
 fn main() {
     let mut input = room::input_room();
     let mut t = room::table_room();
-    let n = io::read_full(STDIN_FILENO, &mut input);
+    let n = io::read_full(STDIN, &mut input);
     tell::tell(&input[..n], &mut t);
 }

@@ -2,15 +2,13 @@
 // beyond ASCII, long lines, trees.
 #![tactic(auto)]
 
+use room::STDOUT;
 use table::ROW_WORDS;
-
-// Standard output.
-const STDOUT_FILENO: i32 = 1;
 
 fn show(s: &[u8]) {
     let mut t = [0u32; ROW_WORDS * 128];
     tell::tell(s, &mut t);
-    io::write_all(STDOUT_FILENO, b"\n");
+    io::write_all(STDOUT, b"\n");
 }
 
 fn closings() {

@@ -5,16 +5,13 @@ use mathlib.Core.List.{List, [], ◌∷◌}
 use Prim.Native.Nat.{ℕ, ◌≤◌}
 use native.Mathlib.Omega.{arith}
 use lib.Dec.{leb, ltb, eqb}
-use borrow.Author.Rules.{rules}
 use borrow.Author.Tests.{leb-true, ltb-true, eqb-true, lt-ltb, lt-leb}
 use Rattle.rules.specs.Parse.{pick}
 use Rattle.rules.proofs.Run.{never, both}
 use Rattle.jsx.specs.Byte.{◌‥◌}
 use Rattle.jsx.specs.Ranges.{start_ranges, continue_ranges}
-use Rattle.jsx.specs.Unicode.{in_ranges, ordered_from}
-use Rattle.jsx.proofs.Unicode.{holds_range, in_range, continue_passes}
-use Rattle.lex.proofs.TestSteps.{or_first, or_second}
-use Rattle.lex.proofs.Laws.{is_first, is_second}
+use Rattle.jsx.specs.Unicode.{in_ranges}
+use Rattle.jsx.proofs.Unicode.{holds_range, in_range}
 use Rattle.identifier.specs.Script.{greek, european, east_asian, common, gap}
 
 -- A test that one of two holds, where each alone gives what is wanted.
@@ -104,26 +101,8 @@ gap_continues_none c h =
     either ((0x200E ‥ 0x203E) c) _ h (in_gap 0x200E 0x203E c refl) (λ h.
     either ((0x2E00 ‥ 0x3004) c) _ h (in_gap 0x2E00 0x3004 c refl) (in_gap 0xFEFD 0xFF0F c refl))))
 
--- ---- no table is searched
+-- ---- the answers
 
--- A letter of a common script.
-pub start_common : (c : ℕ) {t : Bool} → t ≡ common c → t ≡ true → true ≡ in_ranges start_ranges c
-start_common c i x = sym (common_starts c (sym i ∙ x))
-
--- ---- the code's tables are the definition's
-
--- The table that is lent is ordered.
-pub table_passes : {r : List ℕ} → r ≡ continue_ranges → ordered_from 0x80 r ≡ true
-table_passes e = rw e continue_passes
-
-module _ (c : ℕ) {r : List ℕ} (e : r ≡ continue_ranges) {t : Bool} (i : t ≡ in_ranges r c) where
-  -- A code in the table.
-  pub part_found : (y : Bool) → t ≡ true → t ≡ pick (in_ranges continue_ranges c) true y
-  part_found y x = or_first (i ∙ ap (λ (w : List ℕ). in_ranges w c) e) y x
-
-  -- One that is not: the joiners decide.
-  pub part_other : {y u : Bool} → t ≡ false → u ≡ y → u ≡ pick (in_ranges continue_ranges c) true y
-  part_other x j = or_second (i ∙ ap (λ (w : List ℕ). in_ranges w c) e) x j
-
-pub ruleset script_steps =
-    (rules, start_common, table_passes, part_found, part_other, is_first, is_second)
+-- A letter of a common script begins a name.
+pub start_common : (c : ℕ) {t : Bool} → t ≡ common c → t ≡ true → t ≡ in_ranges start_ranges c
+start_common c i x = x ∙ sym (common_starts c (sym i ∙ x))

@@ -1,6 +1,6 @@
 -- Each operation of a word works lane by lane.
 pub mod Spread
--- Eight bytes as a word, made of two, four and eight.
+-- Eight bytes as a word.
 pub mod WordSteps
 -- The masks: which lanes they mark.
 pub mod MaskSteps
@@ -10,5 +10,3 @@ pub mod Marks
 pub mod ScanSteps
 -- Turns over a stretch that is clear, for the crates above.
 pub mod Over
--- What calls, sums and loops ask: one set.
-pub mod Asked

@@ -57,16 +57,17 @@ xor_zero a b = go (eqb b a) refl
         let r = and_le_r b a in
         omega arith))
 
-pub equal_cleared : (a w : ℕ) {r : ℕ} → a < 256 → Cleared (only 0) (bit_xor w (a * 0x0101010101010101)) r
-    → Cleared (only a) w r
-equal_cleared a w i l =
+pub equal_cleared : (a w : ℕ) {b r : ℕ} → a < 256 → b ≡ a
+    → Cleared (only 0) (bit_xor w (b * 0x0101010101010101)) r → Cleared (only a) w r
+equal_cleared a w {b} {r} i e m =
+    let l : Cleared (only 0) (bit_xor w (a * 0x0101010101010101)) r = rw e at m in
     let x = lanes_xor (λ b k. k) (λ b k. i) (lanes_self w) (lanes_copies a w) in
     record {
       lanes = lanes_change (λ b k. ap (λ (x : Bool). pick x 0x7F 0xFF) (xor_zero a b))
           (lanes_lanes (λ b k. xor_lt 8 b a k i) x l.lanes);
     }
 
--- ---- cleared lanes together, and turned round
+-- ---- cleared lanes turned round, and marks together
 
 small : (f : Test) → Small (λ b. pick (f b) 0x7F 0xFF)
 small f b k = go (f b)
@@ -76,17 +77,6 @@ small f b k = go (f b)
     go false = lit< tt
 
 module _ {f : Test} {w u : ℕ} (l : Cleared f w u) where
-  both_cleared : {g : Test} {v : ℕ} → Cleared g w v → Cleared (λ b. pick (f b) true (g b)) w (bit_and u v)
-  both_cleared {g} m = record {
-    lanes = lanes_change (λ b k. go (f b) (g b)) (lanes_and (small f) (small g) l.lanes m.lanes);
-  }
-    where
-      go : (x y : Bool) → bit_and (pick x 0x7F 0xFF) (pick y 0x7F 0xFF) ≡ pick (pick x true y) 0x7F 0xFF
-      go true true = refl
-      go true false = refl
-      go false true = refl
-      go false false = refl
-
   -- The lanes that are cleared are marked.
   pub cleared_marked : Marked f w (bit_xor u 0xFFFFFFFFFFFFFFFF)
   cleared_marked = record {
@@ -119,8 +109,20 @@ both_marked {f} {g} l m = record {
 
 -- One of four bytes.
 pub any_marked : (a b c d : ℕ) {w r₁ r₂ r₃ r₄ : ℕ}
-    → Cleared (only a) w r₁ → Cleared (only b) w r₂ → Cleared (only c) w r₃ → Cleared (only d) w r₄
-    → Marked (any_of a b c d) w (bit_xor (bit_and r₁ (bit_and r₂ (bit_and r₃ r₄))) 0xFFFFFFFFFFFFFFFF)
-any_marked a b c d u v x y = cleared_marked (both_cleared u (both_cleared v (both_cleared x y)))
+    → Marked (only a) w r₁ → Marked (only b) w r₂ → Marked (only c) w r₃ → Marked (only d) w r₄
+    → Marked (any_of a b c d) w (bit_or (bit_or (bit_or r₁ r₂) r₃) r₄)
+any_marked a b c d u v x y =
+    let m = both_marked (both_marked (both_marked u v) x) y in
+    record { lanes = lanes_change (λ n k. go (only a n) (only b n) (only c n) (only d n)) m.lanes }
+  where
+    mark : Bool → ℕ
+    mark x = pick x 0x80 0
 
-pub ruleset mask_steps = (beyond_marked, zeros_fit, zeros_cleared, equal_cleared, cleared_marked, any_marked)
+    go : (p q r s : Bool) → mark (pick (pick (pick p true q) true r) true s)
+        ≡ mark (pick p true (pick q true (pick r true s)))
+    go true q r s = refl
+    go false true r s = refl
+    go false false true s = refl
+    go false false false s = refl
+
+pub ruleset mask_steps = (beyond_marked, zeros_cleared, equal_cleared, cleared_marked, any_marked)

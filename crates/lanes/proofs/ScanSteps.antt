@@ -2,20 +2,18 @@
 use mathlib.Core.Path.{◌≡◌, refl, sym, ap, subst, ◌∙◌}
 use mathlib.Core.Bool.{Bool, true, false}
 use mathlib.Core.List.{List}
-use Prim.Native.Nat.{ℕ, zero, suc, ◌+◌, ◌*◌, ◌/◌, ◌^◌, ◌≤◌, ◌<◌}
+use Prim.Native.Nat.{ℕ, zero, suc, ◌+◌, ◌*◌, ◌/◌, ◌≤◌, ◌<◌}
 use native.Mathlib.Omega.{arith}
 use native.Mathlib.Decide.{dec_lt}
 use mir.Syntax.{w8}
 use mir.Val.{Fits}
 use lib.ListN.{length, get_or}
-use lib.Dec.{eqb, leb}
-use lib.Count.{count_trailing_zeros, trailing_le}
-use borrow.Author.Tests.{leb-true, le-leb, lt-leb, eq-eqb, ne_eqb}
+use lib.Count.{count_trailing_zeros}
 use Rattle.rules.specs.Rule.{Test}
 use Rattle.rules.specs.Parse.{pick, byte_at}
 use Rattle.lex.specs.Contract.{bytes_from}
 use Rattle.lex.proofs.Laws.{inside}
-use Rattle.lanes.specs.Lanes.{spread, word_of, Bytes, Marked, beyond, only, any_of}
+use Rattle.lanes.specs.Lanes.{spread, word_of, Bytes, Marked}
 use Rattle.lanes.specs.First.{Clear, First}
 use Rattle.lanes.proofs.Marks.{before, marks, first_of_eight}
 
@@ -128,124 +126,4 @@ module _
         in
         subst (λ (x : ℕ). First f s p (p + x)) (sym b) (hit f s 8 p i y)
 
-    -- Where no lane is, what is left is scanned by another.
-    pub eight_rest : h ≡ 0 → {q : ℕ} → First f s (p + 8) q → First f s p q
-    eight_rest z l = record { clear = clear_join (eight_clear z) l.clear; met = l.met }
-
--- ---- the loops
-
--- A place in a lane fits.
-pub lane_room : (s : List ℕ) (p h n : ℕ) {r : ℕ} → length s * 1 < 2 ^ 63 → leb 8 n ≡ true → p + n ≤ length s
-    → r ≡ count_trailing_zeros 64 h / 8 → p + r < 2 ^ 64
-lane_room s p h n i k j e = let l = trailing_le 64 h in let m = leb-true 8 n k in omega arith
-
--- The same in the second of two words.
-pub lane_room_2 : (s : List ℕ) (p h : ℕ) {r : ℕ} → length s * 1 < 2 ^ 63 → p + 16 ≤ length s
-    → r ≡ count_trailing_zeros 64 h / 8 → p + 8 + r < 2 ^ 64
-lane_room_2 s p h i j e = let l = trailing_le 64 h in omega arith
-
-module _ {f : Test} {s : List ℕ} {at p : ℕ} (v : Clear f s at p) where
-  -- A block's end fits.
-  pub block_room : (n : ℕ) → leb n 256 ≡ true → length s * 1 < 2 ^ 63 → p + n < 2 ^ 64
-  block_room n k i = let l = leb-true n 256 k in let j = v.inside in omega arith
-
-  -- What is left is scanned by another.
-  pub rest_first : {q : ℕ} → First f s p q → First f s at q
-  rest_first l = record { clear = clear_join v l.clear; met = l.met }
-
-  -- A byte that does not pass the test; one that does; the end.
-  pub scan_byte : {b : ℕ} {x : Bool} → p < length s → b ≡ byte_at s p → x ≡ f b → x ≡ false → Clear f s at (p + 1)
-  scan_byte i y e z = clear_join v (clear_one i (sym (ap f y) ∙ sym e ∙ z))
-
-  pub scan_found : {b : ℕ} {x : Bool} → b ≡ byte_at s p → x ≡ f b → x ≡ true → First f s at p
-  scan_found y e z = record { clear = v; met = λ i. sym (ap f y) ∙ sym e ∙ z }
-
-  pub scan_end : length s ≤ p → First f s at p
-  scan_end i = record { clear = v; met = λ k. absurd (omega arith) }
-
-  module _
-      (each : (k : ℕ) → Fits w8 (get_or s k 0)) {w h : ℕ} (e : w ≡ word_of s p 8) (m : Marked f w h)
-    where
-      -- A word with no lane marked; the first lane that is.
-      pub scan_word : p + 8 ≤ length s → h ≡ 0 → Clear f s at (p + 8)
-      scan_word i z = clear_join v (eight_clear s p each e m i z)
-
-      pub scan_lane : (n : ℕ) → leb 8 n ≡ true → p + n ≤ length s → (h ≡ 0 → ⊥) → {r : ℕ}
-          → r ≡ count_trailing_zeros 64 h / 8 → First f s at (p + r)
-      scan_lane n l i z t =
-          let k = leb-true 8 n l in
-          rest_first (eight_first s p each e m (omega arith) z t)
-
-      -- The second word of sixteen bytes, where no lane of the first is marked.
-      module _ (i : p + 16 ≤ length s) where
-        module _ (z : h ≡ 0) {u k : ℕ} (g : u ≡ word_of s (p + 8) 8) (n : Marked f u k) where
-          pub scan_second : (k ≡ 0 → ⊥) → {r : ℕ} → r ≡ count_trailing_zeros 64 k / 8 → First f s at (p + 8 + r)
-          scan_second y t =
-              let l = eight_first s (p + 8) each g n (omega arith) y t in
-              let c = clear_join v (eight_clear s p each e m (omega arith) z) in
-              record { clear = clear_join c l.clear; met = l.met }
-
-          pub scan_both : k ≡ 0 → Clear f s at (p + 16)
-          scan_both y =
-              let q : p + 8 + 8 ≡ p + 16 = omega arith in
-              subst (Clear f s at) q
-              (clear_join (clear_join v (eight_clear s p each e m (omega arith) z))
-              (eight_clear s (p + 8) each g n (omega arith) y))
-
--- ---- one byte
-
-module _ (a : ℕ) {s : List ℕ} {at p b : ℕ} (v : Clear (only a) s at p) (y : b ≡ byte_at s p) where
-  pub scan_other : {p₁ a₁ : ℕ} → p < length s → (b ≡ a → ⊥) → p₁ ≡ p + 1 → a₁ ≡ a → Clear (only a₁) s at p₁
-  scan_other i n g h = rw (g, h) (scan_byte v i y refl (ne_eqb b a n))
-
-  pub scan_same : b ≡ a → First (only a) s at p
-  scan_same e = scan_found v y refl (eq-eqb b a e)
-
--- ---- a byte beyond ASCII
-
-module _ {s : List ℕ} {at p b : ℕ} (v : Clear beyond s at p) (y : b ≡ byte_at s p) where
-  pub scan_ascii : p < length s → b < 0x80 → Clear beyond s at (p + 1)
-  scan_ascii i n = scan_byte v i y refl (lt-leb 0x80 b n)
-
-  pub scan_beyond : 0x80 ≤ b → First beyond s at p
-  scan_beyond h = scan_found v y refl (le-leb 0x80 b h)
-
--- ---- one of four bytes
-
-module _ (a b c d x : ℕ) where
-  pub any_first : x ≡ a → true ≡ any_of a b c d x
-  any_first h = sym (rw (eq-eqb x a h))
-
-  module _ (n : x ≡ a → ⊥) where
-    pub any_second : x ≡ b → true ≡ any_of a b c d x
-    any_second h = sym (rw (ne_eqb x a n, eq-eqb x b h))
-
-    module _ (m : x ≡ b → ⊥) where
-      pub any_third : x ≡ c → true ≡ any_of a b c d x
-      any_third h = sym (rw (ne_eqb x a n, ne_eqb x b m, eq-eqb x c h))
-
-      pub any_last : (x ≡ c → ⊥) → eqb x d ≡ any_of a b c d x
-      any_last h = sym (rw (ne_eqb x a n, ne_eqb x b m, ne_eqb x c h))
-
-pub ruleset scan_steps = (
-  clear_none,
-  eight_clear,
-  eight_first,
-  rest_first,
-  eight_rest,
-  scan_byte,
-  scan_found,
-  scan_other,
-  scan_same,
-  scan_end,
-  scan_ascii,
-  scan_beyond,
-  scan_word,
-  scan_lane,
-  scan_second,
-  scan_both,
-  any_first,
-  any_second,
-  any_third,
-  any_last,
-)
+pub ruleset scan_steps = (eight_clear, eight_first)

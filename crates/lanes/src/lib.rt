@@ -1,212 +1,98 @@
-// Eight bytes at once: they stand as the lanes of one word, the first byte in the lowest lane. (Request 2.)
+// The first byte of a kind from a place on: eight bytes at once, as the lanes of one word. (Request 2.)
 #![tactic(auto)]
 
-ghost use Rattle.std.specs.Prelude.{◌≡◌, ◌+◌, ◌/◌, ◌≤◌, ◌<◌, length};
-ghost use Rattle.std.specs.Int.Count.{count_trailing_zeros};
-ghost use Rattle.lanes.specs.Lanes.{word_of, Marked, Cleared, beyond, only, any_of};
-ghost use Rattle.lanes.specs.First.{First};
+ghost use Rattle.std.specs.Prelude.{◌+◌, ◌≤◌, length, MatchOption};
+ghost use Rattle.lanes.specs.First.{Clear, First};
 
-// The high bit of each lane.
-const HIGH: u64 = 0x8080808080808080;
+use sought::Sought;
+use words::word;
 
-// The other bits of each lane.
-const LOW: u64 = 0x7F7F7F7F7F7F7F7F;
+pub mod sought;
+mod words;
 
-// Every bit of each lane.
-const ALL: u64 = 0xFFFFFFFFFFFFFFFF;
-
-// 1 in each lane: a byte times this stands in each lane.
-const ONES: u64 = 0x0101010101010101;
-
-fn two(s: &[u8], p: usize) -> u64
-    requires { p + 2 ≤ length s.now }
-    ensures { result ≡ word_of s.now p 2 }
-{
-    s[p + 1] as u64 * 0x100 + s[p] as u64
-}
-
-fn four(s: &[u8], p: usize) -> u64
-    requires { p + 4 ≤ length s.now }
-    ensures { result ≡ word_of s.now p 4 }
-{
-    two(s, p + 2) * 0x10000 + two(s, p)
-}
-
-// The eight bytes from p on: compiled to one load.
-pub fn word(s: &[u8], p: usize) -> u64
+// The first byte that is sought of the eight from p on.
+fn find_in_word<S: Sought>(s: &[u8], p: usize, sought: S) -> Option<usize>
     requires { p + 8 ≤ length s.now }
-    ensures { result ≡ word_of s.now p 8 }
+    ensures { MatchOption result (Clear (S.test sought) s.now p (p + 8)) (λ q. First (S.test sought) s.now p q) }
 {
-    four(s, p + 4) * 0x100000000 + four(s, p)
+    let marks = sought.marks(word(s, p));
+    if marks == 0 {
+        return None;
+    }
+    Some(p + (marks.trailing_zeros() / 8) as usize)
 }
 
-// How many lanes stand before the first that is marked; 8 where none is.
-pub fn first_lane(h: u64) -> usize
-    ensures { result ≡ count_trailing_zeros 64 h / 8 }
-{
-    (u64::trailing_zeros(h) / 8) as usize
-}
-
-// The lanes whose byte is beyond ASCII.
-pub fn beyond_ascii(w: u64) -> u64
-    ensures { Marked beyond w result }
-{
-    w & HIGH
-}
-
-// The first byte beyond ASCII from here on, or the end: byte by byte.
-fn find_beyond_rest(s: &[u8], at: usize) -> usize
+// The first byte that is sought from here on, or the end: byte by byte.
+fn find_by_bytes<S: Sought>(s: &[u8], at: usize, sought: S) -> usize
     requires { at ≤ length s.now }
-    ensures { First beyond s.now at result }
+    ensures { First (S.test sought) s.now at result }
 {
-    let mut p = at;
-    while p < s.len() {
-        if lex::byte(s, p) >= 0x80 {
+    for p in at..s.len() {
+        if sought.has(s[p]) {
             return p;
         }
-        p = p + 1;
     }
-    p
+    s.len()
 }
 
-// The same where fewer than sixteen bytes are left: eight at once, if there are so many.
-fn find_beyond_eight(s: &[u8], at: usize) -> usize
+// The same by one word, if eight bytes are left, and then by bytes.
+fn find_by_word<S: Sought>(s: &[u8], at: usize, sought: S) -> usize
     requires { at ≤ length s.now }
-    ensures { First beyond s.now at result }
+    ensures { First (S.test sought) s.now at result }
 {
     let end = at + 8;
     if s.len() < end {
-        return find_beyond_rest(s, at);
+        return find_by_bytes(s, at, sought);
     }
-    let h = beyond_ascii(word(s, at));
-    if h != 0 {
-        return at + first_lane(h);
+    match find_in_word(s, at, sought) {
+        Some(p) => p,
+        None => find_by_bytes(s, end, sought),
     }
-    find_beyond_rest(s, end)
 }
 
-// The first byte beyond ASCII from here on, or the end: sixteen bytes at once.
-pub fn find_beyond(s: &[u8], at: usize) -> usize
+// The same by words. (A `for` counts the turns beside the place: measured, here and by pairs, short scans took 1.2 of
+// the time.)
+fn find_by_words<S: Sought>(s: &[u8], at: usize, sought: S) -> usize
     requires { at ≤ length s.now }
-    ensures { First beyond s.now at result }
+    ensures { First (S.test sought) s.now at result }
+{
+    let mut p = at;
+    while p + 8 <= s.len() {
+        if let Some(q) = find_in_word(s, p, sought) {
+            return q;
+        }
+        p = p + 8;
+    }
+    find_by_bytes(s, p, sought)
+}
+
+// The same by pairs of words. (By words and by pairs as one function, over how many words a turn has: measured, long
+// scans took 1.2 to 1.4 of the time.)
+fn find_by_pairs<S: Sought>(s: &[u8], at: usize, sought: S) -> usize
+    requires { at ≤ length s.now }
+    ensures { First (S.test sought) s.now at result }
 {
     let mut p = at;
     while p + 16 <= s.len() {
-        let h = beyond_ascii(word(s, p));
-        if h != 0 {
-            return p + first_lane(h);
+        if let Some(q) = find_in_word(s, p, sought) {
+            return q;
         }
-        let k = beyond_ascii(word(s, p + 8));
-        if k != 0 {
-            return p + 8 + first_lane(k);
+        if let Some(q) = find_in_word(s, p + 8, sought) {
+            return q;
         }
         p = p + 16;
     }
-    find_beyond_eight(s, p)
+    find_by_word(s, p, sought)
 }
 
-// The high bit is clear in the lanes that are 0, every other bit is set: no sum leaves its lane.
-fn clear_zeros(x: u64) -> u64
-    ensures { Cleared (only 0) x result }
-{
-    (((x & LOW) + LOW) | x) | LOW
-}
-
-// The high bit is clear in the lanes whose byte is a, every other bit is set.
-fn clear_equal(w: u64, a: u32) -> u64
-    requires { a < 256 }
-    ensures { Cleared (only a) w result }
-{
-    clear_zeros(w ^ a as u64 * ONES)
-}
-
-// The lanes whose byte is a.
-pub fn equal(w: u64, a: u32) -> u64
-    requires { a < 256 }
-    ensures { Marked (only a) w result }
-{
-    clear_equal(w, a) ^ ALL
-}
-
-fn find_rest(s: &[u8], at: usize, a: u32) -> usize
+// The first byte that is sought from here on, or the end.
+pub fn find<S: Sought>(s: &[u8], at: usize, sought: S) -> usize
     requires { at ≤ length s.now }
-    ensures { First (only a) s.now at result }
+    ensures { First (S.test sought) s.now at result }
 {
-    let mut p = at;
-    while p < s.len() {
-        if lex::byte(s, p) == a {
-            return p;
-        }
-        p = p + 1;
+    if S::PAIRS {
+        find_by_pairs(s, at, sought)
+    } else {
+        find_by_words(s, at, sought)
     }
-    p
-}
-
-// The first byte a from here on, or the end.
-pub fn find(s: &[u8], at: usize, a: u32) -> usize
-    requires { (a < 256) × (at ≤ length s.now) }
-    ensures { First (only a) s.now at result }
-{
-    let mut p = at;
-    while p + 8 <= s.len() {
-        let h = equal(word(s, p), a);
-        if h != 0 {
-            return p + first_lane(h);
-        }
-        p = p + 8;
-    }
-    find_rest(s, p, a)
-}
-
-fn is_any(x: u32, a: u32, b: u32, c: u32, d: u32) -> bool
-    ensures { result ≡ any_of a b c d x }
-{
-    if x == a {
-        return true;
-    }
-    if x == b {
-        return true;
-    }
-    if x == c {
-        return true;
-    }
-    x == d
-}
-
-// The lanes whose byte is a, b, c or d.
-fn equal_any(w: u64, a: u32, b: u32, c: u32, d: u32) -> u64
-    requires { (a < 256) × (b < 256) × (c < 256) × (d < 256) }
-    ensures { Marked (any_of a b c d) w result }
-{
-    (clear_equal(w, a) & (clear_equal(w, b) & (clear_equal(w, c) & clear_equal(w, d)))) ^ ALL
-}
-
-fn find_any_rest(s: &[u8], at: usize, a: u32, b: u32, c: u32, d: u32) -> usize
-    requires { at ≤ length s.now }
-    ensures { First (any_of a b c d) s.now at result }
-{
-    let mut p = at;
-    while p < s.len() {
-        if is_any(lex::byte(s, p), a, b, c, d) {
-            return p;
-        }
-        p = p + 1;
-    }
-    p
-}
-
-// The first of the bytes a, b, c and d from here on, or the end.
-pub fn find_any(s: &[u8], at: usize, a: u32, b: u32, c: u32, d: u32) -> usize
-    requires { (a < 256) × (b < 256) × (c < 256) × (d < 256) × (at ≤ length s.now) }
-    ensures { First (any_of a b c d) s.now at result }
-{
-    let mut p = at;
-    while p + 8 <= s.len() {
-        let h = equal_any(word(s, p), a, b, c, d);
-        if h != 0 {
-            return p + first_lane(h);
-        }
-        p = p + 8;
-    }
-    find_any_rest(s, p, a, b, c, d)
 }

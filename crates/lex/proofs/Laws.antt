@@ -15,8 +15,7 @@ use Rattle.rules.specs.Parse.{Answer, got, trouble, pick, behind, byte_at, opens
 use Rattle.rules.proofs.Run.{goes, on, got_goes}
 use Rattle.jsx.specs.Byte.{need}
 use Rattle.lex.specs.Contract.{view, out_of, Leaf}
-use Rattle.lex.specs.declared.Ans.{Ans}
-use Rattle.lex.specs.declared.Ans.TheVariants.{Got, No}
+use Rattle.lex.specs.Answer.{Ans, Got, No}
 
 -- ---- bytes
 

@@ -14,3 +14,5 @@ pub mod Bare
 pub mod SameBytes
 -- What the needs of this crate's functions follow from.
 pub mod Steps
+-- Results, as the answers that they say.
+pub mod Results

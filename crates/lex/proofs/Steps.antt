@@ -11,8 +11,7 @@ use Rattle.rules.specs.Rule.{step}
 use Rattle.rules.specs.Parse.{byte_at, opens}
 use Rattle.jsx.specs.Byte.{need}
 use Rattle.lex.specs.Contract.{nothing, Leaf, expect_byte}
-use Rattle.lex.specs.declared.Ans.{Ans}
-use Rattle.lex.specs.declared.Ans.TheVariants.{Got, No}
+use Rattle.lex.specs.Answer.{Ans, Got, No}
 use Rattle.lex.proofs.Laws as Laws
 
 module _ (s : List ℕ) (at : ℕ) where

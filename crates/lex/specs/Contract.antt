@@ -4,8 +4,7 @@ use Rattle.rules.specs.Forest.{Forest, nil}
 use Rattle.rules.specs.Rule.{Rule, step, when, ◌⇒◌∣◌}
 use Rattle.rules.specs.Parse.{Answer, got, trouble, read_at}
 use Rattle.jsx.specs.Byte.{need}
-use Rattle.lex.specs.declared.Ans.{Ans}
-use Rattle.lex.specs.declared.Ans.TheVariants.{Got, No}
+use Rattle.lex.specs.Answer.{Ans, Got, No}
 
 -- What the code returns: the next place and a number that stands for what was read, or the refusal.
 abbrev pub view : (Bool → Forest → ℕ) → Answer → Ans

@@ -1,46 +1,77 @@
-// The refusal numbers of documents 01 and 02, by the names that the definition gives them.
+// Refusals: which one of documents 01 and 02 it is, and its places.
 
-pub const TOO_LONG: u32 = 1;
+ghost use Rattle.std.specs.Prelude.{◌≡◌};
+ghost use Rattle.lex.specs.Answer.{No, number, refused};
 
-pub const NOT_UTF8: u32 = 2;
+// The refusals of document 01 and, from `CommentNeverClosed` on, of document 02, by the names and with the numbers that
+// the definition gives them.
+#[derive(Clone, Copy, PartialEq, Eq)]
+pub enum Reason {
+    TooLong = 1,
+    NotUtf8 = 2,
+    Unexpected = 3,
+    EndOfInput = 4,
+    QuotedNeverClosed = 5,
+    StrayInText = 6,
+    NamesDiffer = 7,
+    FragmentClosedByName = 8,
+    ElementClosedByFragment = 9,
+    DashAfterDot = 10,
+    EmptyValue = 11,
+    Adjacent = 12,
+    AfterStage = 13,
+    TooDeep = 14,
+    TableTooSmall = 15,
+    CommaInBraces = 16,
+    CommentNeverClosed = 17,
+    StringNeverClosed = 18,
+}
 
-pub const UNEXPECTED: u32 = 3;
+// The places from `start` up to `end`.
+#[derive(Clone, Copy, PartialEq, Eq)]
+pub struct Span {
+    pub start: usize,
+    pub end: usize,
+}
 
-pub const END_OF_INPUT: u32 = 4;
+// Why an input is refused, and where: most refusals have one place, and zeros for the second.
+#[derive(Clone, Copy, PartialEq, Eq)]
+pub struct Refusal {
+    pub reason: Reason,
+    pub first: Span,
+    pub second: Span,
+}
 
-pub const QUOTED_NEVER_CLOSED: u32 = 5;
+impl Reason {
+    pub fn number(self) -> u32
+        ensures { result ≡ number self }
+    {
+        self as u32
+    }
 
-pub const STRAY_IN_TEXT: u32 = 6;
+    // Refused at one place.
+    pub fn at(self, p: usize) -> Refusal
+        ensures { refused result ≡ No (number self) p p 0 0 }
+    {
+        self.over(p, p)
+    }
 
-pub const NAMES_DIFFER: u32 = 7;
+    // Refused from `start` to `end`.
+    pub fn over(self, start: usize, end: usize) -> Refusal
+        ensures { refused result ≡ No (number self) start end 0 0 }
+    {
+        self.over_both(Span { start, end }, Span { start: 0, end: 0 })
+    }
 
-pub const FRAGMENT_CLOSED_BY_NAME: u32 = 8;
-
-pub const ELEMENT_CLOSED_BY_FRAGMENT: u32 = 9;
-
-pub const DASH_AFTER_DOT: u32 = 10;
-
-pub const EMPTY_VALUE: u32 = 11;
-
-pub const ADJACENT: u32 = 12;
-
-pub const AFTER_STAGE: u32 = 13;
-
-pub const TOO_DEEP: u32 = 14;
-
-pub const TABLE_TOO_SMALL: u32 = 15;
-
-pub const COMMA_IN_BRACES: u32 = 16;
-
-pub const COMMENT_NEVER_CLOSED: u32 = 17;
-
-pub const STRING_NEVER_CLOSED: u32 = 18;
-
-// The refusals of a settings store.
-pub const WRONG_MARK: u32 = 31;
-
-pub const CUT_SHORT: u32 = 32;
-
-pub const UNKNOWN_KIND: u32 = 33;
-
-pub const BAD_SETTING: u32 = 34;
+    // Refused for two places.
+    #[tactic(auto, unfolding(crate::specs::Answer::refused))]
+    pub fn over_both(self, first: Span, second: Span) -> Refusal
+        ensures { refused result ≡ No (number self) first.start first.end second.start second.end }
+    {
+        Refusal {
+            reason: self,
+            first,
+            second,
+        }
+    }
+}

@@ -3,17 +3,12 @@
 #![tactic(auto)]
 
 use print::PROGRAM_TEXT;
-
-// Standard input, as the system numbers it.
-const STDIN_FILENO: i32 = 0;
-
-// Standard output.
-const STDOUT_FILENO: i32 = 1;
+use room::{STDIN, STDOUT};
 
 fn main() {
     let mut input = [0u8; 65_537]; // one byte more than is allowed, so that a longer input is told
-    let n = io::read_full(STDIN_FILENO, &mut input);
+    let n = io::read_full(STDIN, &mut input);
     let mut out = [0u8; PROGRAM_TEXT];
     let e = print::program_text(&input[..n], &mut out);
-    io::write_all(STDOUT_FILENO, &out[..e]);
+    io::write_all(STDOUT, &out[..e]);
 }

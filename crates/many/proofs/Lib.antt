@@ -1,2 +1,2 @@
--- A law for each step of the batch.
+-- What an answer's text asks.
 pub mod Steps

@@ -6,7 +6,7 @@ use Prim.Native.Nat.{ℕ, ◌+◌, ◌*◌, ◌-◌, ◌≤◌, ◌<◌, ◌^◌
 use native.Mathlib.Omega.{arith}
 use lib.Dec.{lit<}
 use lib.ListN.{length}
-use borrow.Author.Rules.{rules}
+use Rattle.lex.proofs.Results.{results}
 use borrow.Author.Tests.{eq-eqb, ne_eqb}
 use mir.Syntax.{w64}
 use mir.Val.{Fits}
@@ -16,8 +16,7 @@ use Rattle.rules.specs.Record.{row_words}
 use Rattle.jsx.specs.Blank.{blanks}
 use Rattle.jsx.specs.Name.{dotted_part, dotted}
 use Rattle.lex.specs.Contract.{nothing, Leaf}
-use Rattle.lex.specs.declared.Ans.{Ans}
-use Rattle.lex.specs.declared.Ans.TheVariants.{Got, No}
+use Rattle.lex.specs.Answer.{Ans, Got, No}
 use Rattle.lex.proofs.Laws as Lex
 use Rattle.lex.proofs.Bare.{goes_blanks, bare_blanks}
 use Rattle.table.specs.Slot.{Seat, seat_behind}
@@ -183,10 +182,10 @@ pub dotted_length : {s : List ℕ} {at : ℕ} {q : Seat} {t₀ : List ℕ} {p m 
     → length t ≡ length t₀
 dotted_length v = v.here.long
 
-pub ruleset dotted_steps = (rules, dotted_begin, turn_stops, turn_ends, turn_stops_behind, turn_refused, turn_goes_on)
+pub ruleset dotted_steps = (results, dotted_begin, turn_stops, turn_ends, turn_stops_behind, turn_refused, turn_goes_on)
 
 pub ruleset dotted_asked = (
-  rules,
+  results,
   turn_inside,
   turn_slot,
   turn_word,

@@ -13,6 +13,7 @@ use Rattle.rules.specs.Parse.{pick, byte_at}
 use Rattle.rules.proofs.Run.{never}
 use Rattle.jsx.specs.Kind as Kind
 use Rattle.jsx.specs.Name.{has, same, first_is, dashed, is_this, opens_reference, one_name, object_name}
+use Rattle.lex.specs.Answer.{flag}
 use Rattle.lex.specs.Contract.{bytes_from}
 
 -- ---- the first byte
@@ -34,23 +35,22 @@ dashed_few w = go (has "-" w)
     go true = omega arith
     go false = omega arith
 
--- Where the number for a dash is 1, the bytes have a dash.
-pub dash_yes : (w : List ℕ) {d : ℕ} → d ≡ dashed w → d ≡ 1 → has "-" w ≡ true
+-- A flag that is the number for a dash tells whether there is one.
+dash_is : (w : List ℕ) {d : Bool} → flag d ≡ dashed w → has "-" w ≡ d
 unfolding dashed
-dash_yes w {d} e f = go (has "-" w) (sym e ∙ f)
+dash_is w {d} e = go d (has "-" w) e
   where
-    go : (b : Bool) → pick {A = ℕ} b 1 0 ≡ 1 → b ≡ true
-    go true h = refl
-    go false h = absurd (omega arith)
+    go : (x y : Bool) → flag x ≡ pick y 1 0 → y ≡ x
+    go true true h = refl
+    go true false h = absurd (omega arith)
+    go false true h = absurd (omega arith)
+    go false false h = refl
 
--- Where the number for a dash is not 1, the bytes have none, and it is 0.
-pub dash_no : (w : List ℕ) {d : ℕ} → d ≡ dashed w → (d ≡ 1 → ⊥) → (has "-" w ≡ false) × (d ≡ 0)
-unfolding dashed
-dash_no w {d} e f = go (has "-" w) e
-  where
-    go : (b : Bool) → d ≡ pick {A = ℕ} b 1 0 → (b ≡ false) × (d ≡ 0)
-    go true h = absurd (f h)
-    go false h = (refl, h)
+pub dash_yes : (w : List ℕ) {d : Bool} → flag d ≡ dashed w → d ≡ true → has "-" w ≡ true
+dash_yes w e f = dash_is w e ∙ f
+
+pub dash_no : (w : List ℕ) {d : Bool} → flag d ≡ dashed w → d ≡ false → has "-" w ≡ false
+dash_no w e f = dash_is w e ∙ f
 
 same_is : (u v : List ℕ) → same u v ≡ true → u ≡ v
 unfolding same
@@ -70,34 +70,37 @@ this_undashed w h = ap dashed (same_is w _ h)
 
 -- ---- the kinds, by the tests of the code
 
-module _ (s : List ℕ) (a b : ℕ) {d : ℕ} (i : a < b) (e : d ≡ dashed (bytes_from s a (b - a))) where
-  -- With a dash: an identifier.
-  pub name_dashed : d ≡ 1 → one_name (bytes_from s a (b - a)) ≡ node Kind.identifier d
-  unfolding one_name
-  name_dashed f = rw (dash_yes (bytes_from s a (b - a)) e f) (ap (node Kind.identifier) (sym f))
+numbered : (k : ℕ) {x y : Bool} → x ≡ y → node k (flag x) ≡ node k (flag y)
+numbered k e = ap (λ (x : Bool). node k (flag x)) e
 
-  module _ (f : d ≡ 1 → ⊥) {c : ℕ} (h : c ≡ byte_at s a) {x : Bool} (k : x ≡ opens_reference c) where
-    plain : (has "-" (bytes_from s a (b - a)) ≡ false) × (d ≡ 0)
+module _ (s : List ℕ) (a b : ℕ) {d : Bool} (i : a < b) (e : flag d ≡ dashed (bytes_from s a (b - a))) where
+  -- With a dash: an identifier.
+  pub name_dashed : d ≡ true → one_name (bytes_from s a (b - a)) ≡ node Kind.identifier (flag d)
+  unfolding one_name
+  name_dashed f = rw (dash_yes (bytes_from s a (b - a)) e f) (numbered Kind.identifier (sym f))
+
+  module _ (f : d ≡ false) {c : ℕ} (h : c ≡ byte_at s a) {x : Bool} (k : x ≡ opens_reference c) where
+    plain : has "-" (bytes_from s a (b - a)) ≡ false
     plain = dash_no (bytes_from s a (b - a)) e f
 
     opened : {y : Bool} → x ≡ y → first_is opens_reference (bytes_from s a (b - a)) ≡ y
     opened z = first_is_lem opens_reference s a (b - a) (omega arith) ∙ sym (ap opens_reference h) ∙ sym k ∙ z
 
     -- By its first byte: a reference.
-    pub name_reference : x ≡ true → one_name (bytes_from s a (b - a)) ≡ node Kind.reference d
+    pub name_reference : x ≡ true → one_name (bytes_from s a (b - a)) ≡ node Kind.reference (flag d)
     unfolding one_name
-    name_reference z = rw (plain.0, opened z) (ap (node Kind.reference) (sym plain.1))
+    name_reference z = rw (plain, opened z) (numbered Kind.reference (sym f))
 
     module _ (z : x ≡ false) {v : Bool} (l : v ≡ is_this (bytes_from s a (b - a))) where
       -- By all its bytes: This.
-      pub name_this : v ≡ true → one_name (bytes_from s a (b - a)) ≡ node Kind.this d
+      pub name_this : v ≡ true → one_name (bytes_from s a (b - a)) ≡ node Kind.this (flag d)
       unfolding one_name
-      name_this w = rw (plain.0, opened z, sym l ∙ w) (ap (node Kind.this) (sym plain.1))
+      name_this w = rw (plain, opened z, sym l ∙ w) (numbered Kind.this (sym f))
 
       -- By none of these: an identifier.
-      pub name_other : v ≡ false → one_name (bytes_from s a (b - a)) ≡ node Kind.identifier d
+      pub name_other : v ≡ false → one_name (bytes_from s a (b - a)) ≡ node Kind.identifier (flag d)
       unfolding one_name
-      name_other w = rw (plain.0, opened z, sym l ∙ w) (ap (node Kind.identifier) (sym plain.1))
+      name_other w = rw (plain, opened z, sym l ∙ w) (numbered Kind.identifier (sym f))
 
 module _ (s : List ℕ) (a b : ℕ) {v : Bool} (l : v ≡ is_this (bytes_from s a (b - a))) where
   -- An object whose bytes are `this` is This, with the number for a dash as its extra.

@@ -5,7 +5,7 @@ use mathlib.Core.List.{List}
 use Prim.Native.Nat.{ℕ, suc, ◌+◌, ◌*◌, ◌-◌}
 use native.Mathlib.Omega.{arith}
 use lib.ListN.{length}
-use borrow.Author.Rules.{rules}
+use Rattle.lex.proofs.Results.{results}
 use borrow.Rule.Slice.PartMut.{put_mid, mid_of}
 use Rattle.rules.specs.Rule.{many, ◌⨾◌}
 use Rattle.rules.specs.Forest.{direct}
@@ -17,8 +17,7 @@ use Rattle.jsx.specs.Kind as Kind
 use Rattle.jsx.specs.Byte.{need}
 use Rattle.jsx.specs.Name.{object_name, part, object, dotted, member}
 use Rattle.lex.specs.Contract.{bytes_from, Past}
-use Rattle.lex.specs.declared.Ans.{Ans}
-use Rattle.lex.specs.declared.Ans.TheVariants.{Got, No}
+use Rattle.lex.specs.Answer.{Ans, Got, No}
 use Rattle.lex.proofs.Laws as Lex
 use Rattle.table.specs.Slot.{Seat, seat_inside, seat_behind}
 use Rattle.table.specs.Contract.{Start, Words, Stored}
@@ -121,6 +120,6 @@ module _ {s : List ℕ} {at e : ℕ} {q : Seat} (room : Room 3 s at q) (l : Past
         let far₂ = m.of.far _ _ h in
         rw (f, g₁, g₂, g₃) (omega arith)
 
-pub ruleset member_steps = (rules, member_stops, member_made)
+pub ruleset member_steps = (results, member_stops, member_made)
 
 pub ruleset member_asked = (reader_asked, member_room, member_words)

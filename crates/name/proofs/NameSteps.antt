@@ -6,7 +6,7 @@ use Prim.Native.Char.{code}
 use Prim.Native.Nat.{ℕ, suc, ◌-◌, ◌<◌}
 use native.Mathlib.Omega.{arith}
 use lib.ListN.{length}
-use borrow.Author.Rules.{rules}
+use Rattle.lex.proofs.Results.{results}
 use borrow.Author.Tests.{eq-eqb, ne_eqb}
 use Rattle.rules.specs.Forest.{node}
 use Rattle.rules.specs.Rule.{Test, Rule, after, ◌⨾◌}
@@ -19,8 +19,7 @@ use Rattle.jsx.specs.Name.{dashed, one_name, part, one_part, other_part, namespa
 use Rattle.jsx.specs.Name.{attribute_name}
 use Rattle.jsx.proofs.Again.{look_got}
 use Rattle.lex.specs.Contract.{nothing, out_of, bytes_from, Leaf, Past}
-use Rattle.lex.specs.declared.Ans.{Ans}
-use Rattle.lex.specs.declared.Ans.TheVariants.{Got, No}
+use Rattle.lex.specs.Answer.{Ans, Got, No}
 use Rattle.lex.proofs.Laws as Lex
 use Rattle.lex.proofs.Bare.{goes_part, goes_blanks}
 use Rattle.table.specs.Slot.{Seat}
@@ -171,7 +170,7 @@ module _ {s : List ℕ} {at : ℕ} {r : Ans} (l : Leaf nothing r s part at 1) {e
       })
 
 pub ruleset name_steps = (
-  rules,
+  results,
   element_stops,
   element_stops_behind,
   element_spaced,

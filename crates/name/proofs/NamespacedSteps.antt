@@ -7,7 +7,7 @@ use Prim.Native.Nat.{ℕ, suc, ◌+◌, ◌*◌, ◌-◌, ◌≤◌}
 use native.Mathlib.Omega.{arith}
 use lib.Dec.{lit<}
 use lib.ListN.{length}
-use borrow.Author.Rules.{rules}
+use Rattle.lex.proofs.Results.{results}
 use mir.Syntax.{w64}
 use mir.Val.{Fits}
 use Rattle.rules.specs.Forest.{node}
@@ -20,8 +20,7 @@ use Rattle.jsx.specs.Byte.{need, expect}
 use Rattle.jsx.specs.Blank.{blanks}
 use Rattle.jsx.specs.Name.{dashed, part, other_part, namespaced}
 use Rattle.lex.specs.Contract.{nothing, bytes_from, Leaf}
-use Rattle.lex.specs.declared.Ans.{Ans}
-use Rattle.lex.specs.declared.Ans.TheVariants.{Got, No}
+use Rattle.lex.specs.Answer.{Ans, Got, No}
 use Rattle.lex.proofs.Laws as Lex
 use Rattle.lex.proofs.Bare.{goes_blanks, bare_blanks}
 use Rattle.table.specs.Slot.{Seat, seat_inside, seat_behind}
@@ -164,9 +163,9 @@ module _ {s : List ℕ} {f : First} {q : Seat} (room : Room 3 s f.at q) (pre : P
         let far₃ = m.of.far _ _ h in
         rw (g, g₁, g₂, g₃) (omega arith)
 
-pub ruleset namespaced_steps = (rules, namespaced_stops, namespaced_made)
+pub ruleset namespaced_steps = (results, namespaced_stops, namespaced_made)
 
-pub ruleset next_steps = (rules, next_stops, next_made)
+pub ruleset next_steps = (results, next_stops, next_made)
 
 pub ruleset namespaced_asked = (
   reader_asked,

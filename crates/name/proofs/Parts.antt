@@ -16,7 +16,7 @@ use Rattle.jsx.specs.Byte.{need}
 use Rattle.jsx.specs.Name.{has, dashed, one_name, object_name, part, one_part, other_part, object, dotted_part}
 use Rattle.jsx.proofs.Again.{other_part_of, other_part_again}
 use Rattle.lex.specs.Contract.{out_of, bytes_from}
-use Rattle.lex.specs.declared.Ans.TheVariants.{Got}
+use Rattle.lex.specs.Answer.{Got}
 use Rattle.lex.proofs.Bare.{bare_part, direct_got}
 use Rattle.table.specs.Slot.{Seat}
 use Rattle.table.specs.Reader.{Made}

@@ -16,8 +16,7 @@ use Rattle.jsx.specs.Byte.{is, digit}
 use Rattle.jsx.specs.Name.{in_word}
 use Rattle.jsx.specs.Word.{digits, whole, fraction, number}
 use Rattle.lex.specs.Contract.{nothing, Leaf, Past}
-use Rattle.lex.specs.declared.Ans.{Ans}
-use Rattle.lex.specs.declared.Ans.TheVariants.{Got, No}
+use Rattle.lex.specs.Answer.{Ans, Got, No}
 use Rattle.lex.proofs.Laws.{before_end, byte_is, byte_not, tested, known, leaf_stop, leaf_done}
 use Rattle.number.proofs.DigitSteps.{digit_inside}
 

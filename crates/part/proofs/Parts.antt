@@ -7,6 +7,7 @@ use native.Mathlib.Omega.{arith}
 use native.Mathlib.Nat.{add_comm}
 use lib.ListN.{length, get_or}
 use lib.Dec.{leb, ltb}
+use Rattle.std.specs.Prelude.{Option, Some, None}
 use borrow.Author.Tests.{le-leb, lt-leb, lt-ltb, le-ltb}
 use borrow.Author.Rules.{rules}
 use borrow.Rule.Slice.PartAt.{sl_partˢ}
@@ -15,7 +16,7 @@ use denote.Ref.{Bor}
 use Rattle.rules.specs.Parse.{pick}
 use Rattle.rules.specs.Record.{row_words}
 use Rattle.jsx.specs.Table.{Part, no_part, span_part, record_part, holds, table_word, bytes_in}
-use Rattle.part.specs.Contract.{Answered}
+use Rattle.part.specs.Contract.{Answered, Placed, part_of}
 
 -- ---- which part it is
 
@@ -56,10 +57,54 @@ module _ (s t : List ℕ) (m k : ℕ) where
   unfolding record_part holds table_word
   record_is h l p q = rw (lt-ltb k m h, lt-ltb k (length t / row_words) l) (λ i. span_part s (sym p i) (sym q i))
 
+-- ---- where it is
+
+placed_as : {s : List ℕ} {r : Option (ℕ × ℕ)} {p q : Part} → Placed s p r → q ≡ p → Placed s q r
+placed_as {s} {r} {p} {q} h e = subst (λ (p : Part). Placed s p r) (sym e) h
+
+-- No part is nowhere.
+placed_none : {s : List ℕ} → Placed s no_part None
+placed_none = record { is = refl; within = tt }
+
+module _ (s : List ℕ) (a z : ℕ) where
+  -- A span that ends before it starts is nowhere,
+  pub placed_turned : z < a → Placed s (span_part s a z) None
+  placed_turned h = placed_as placed_none (span_turned s a z h)
+
+  -- nor is one that ends past the input;
+  pub placed_past : a ≤ z → length s < z → Placed s (span_part s a z) None
+  placed_past h l = placed_as placed_none (span_past s a z h l)
+
+  -- any other is from its start to its end.
+  pub placed_span : a ≤ z → z ≤ length s → Placed s (span_part s a z) (Some (a, z))
+  placed_span h l = placed_as (record { is = refl; within = (h, l) }) (span_is s a z h l)
+
+module _ (s : List ℕ) (t : List ℕ) (m k : ℕ) where
+  -- A record from the count on is nowhere,
+  pub placed_uncounted : m ≤ k → Placed s (record_part s t m k) None
+  placed_uncounted h = placed_as placed_none (record_from_count s t m k h)
+
+  -- nor is one past the table;
+  pub placed_no_row : k < m → length t / row_words ≤ k → Placed s (record_part s t m k) None
+  placed_no_row h l = placed_as placed_none (record_past s t m k h l)
+
+  -- any other is where the span is that its row says.
+  pub placed_record : {a z : ℕ} {r : Option (ℕ × ℕ)}
+      → k < m
+      → k < length t / row_words
+      → a ≡ get_or t (row_words * k + 1) 0
+      → z ≡ get_or t (row_words * k + 2) 0
+      → Placed s (span_part s a z) r
+      → Placed s (record_part s t m k) r
+  placed_record h l p q x = placed_as x (record_is s t m k h l p q)
+
 -- ---- what answers it
 
-answered_as : {s r : Bor (List ℕ)} {p q : Part} {f : Bool} → Answered s p r f → q ≡ p → Answered s q r f
-answered_as {s} {r} {p} {q} {f} h e = subst (λ (p : Part). Answered s p r f) (sym e) h
+-- What answers the part that the places say answers the part that is there.
+pub answers_placed : {s r : Bor (List ℕ)} {p : Part} {o : Option (ℕ × ℕ)} {f : Bool} → Placed s.now p o
+    → Answered s (part_of o) r f
+    → Answered s p r f
+answers_placed {s} {r} {f = f} h x = subst (λ (p : Part). Answered s p r f) (sym h.is) x
 
 -- The empty part at the start.
 pub answers_none : (s : Bor (List ℕ)) → Answered s no_part (sl_partˢ s (by_byte 0 s.ref_ptr.1) 0 0) false
@@ -67,55 +112,21 @@ unfolding no_part bytes_in
 answers_none s =
     record { tells = refl; bytes = refl; place = ap (λ (n : ℕ). (s.ref_ptr.0, n)) (add_comm 0 s.ref_ptr.1) }
 
-module _ (s : Bor (List ℕ)) (a z : ℕ) where
-  -- What answers no part answers a span that ends before it starts.
-  pub answers_turned : {r : Bor (List ℕ)} {f : Bool} → z < a → Answered s no_part r f
-      → Answered s (span_part s.now a z) r f
-  answers_turned h k = answered_as k (span_turned s.now a z h)
+-- The part from a to z.
+pub answers_part : (s : Bor (List ℕ)) (a z : ℕ)
+    → Answered s (part_of (Some (a, z))) (sl_partˢ s (by_byte a s.ref_ptr.1) a z) true
+unfolding bytes_in
+answers_part s a z =
+    record { tells = refl; bytes = refl; place = ap (λ (n : ℕ). (s.ref_ptr.0, n)) (add_comm a s.ref_ptr.1) }
 
-  -- What answers no part answers a span that ends past the input.
-  pub answers_past : {r : Bor (List ℕ)} {f : Bool} → a ≤ z → length s.now < z → Answered s no_part r f
-      → Answered s (span_part s.now a z) r f
-  answers_past h l k = answered_as k (span_past s.now a z h l)
-
-  -- Any other span is answered by that part of the input, and by yes.
-  pub answers_part : a ≤ z → z ≤ length s.now
-      → Answered s (span_part s.now a z) (sl_partˢ s (by_byte a s.ref_ptr.1) a z) true
-  unfolding bytes_in
-  answers_part h l =
-      answered_as
-      (record { tells = refl; bytes = refl; place = ap (λ (n : ℕ). (s.ref_ptr.0, n)) (add_comm a s.ref_ptr.1) })
-      (span_is s.now a z h l)
-
-module _ (s : Bor (List ℕ)) (t : List ℕ) (m k : ℕ) {r : Bor (List ℕ)} {f : Bool} where
-  -- What answers no part answers a record from the count on.
-  pub answers_uncounted : m ≤ k → Answered s no_part r f → Answered s (record_part s.now t m k) r f
-  answers_uncounted h x = answered_as x (record_from_count s.now t m k h)
-
-  -- What answers no part answers a record past the table.
-  pub answers_no_row : k < m → length t / row_words ≤ k → Answered s no_part r f
-      → Answered s (record_part s.now t m k) r f
-  answers_no_row h l x = answered_as x (record_past s.now t m k h l)
-
-  -- What answers the span that its row says answers any other record.
-  pub answers_record : {a z : ℕ}
-      → k < m
-      → k < length t / row_words
-      → a ≡ get_or t (row_words * k + 1) 0
-      → z ≡ get_or t (row_words * k + 2) 0
-      → Answered s (span_part s.now a z) r f
-      → Answered s (record_part s.now t m k) r f
-  answers_record h l p q x = answered_as x (record_is s.now t m k h l p q)
-
-pub ruleset part_steps = (
+pub ruleset place_steps = (
   rules,
-  answers_none,
-  answers_turned,
-  answers_past,
-  answers_part,
-  answers_uncounted,
-  answers_no_row,
-  answers_record,
+  placed_turned,
+  placed_past,
+  placed_span,
+  placed_uncounted,
+  placed_no_row,
+  placed_record,
 )
 
 -- Any two answers say the same, have the same bytes and stand at the same place.

@@ -1,17 +1,21 @@
 -- The text of an answer: what each need follows from.
-use mathlib.Core.Path.{◌≡◌, refl, subst}
+use mathlib.Core.Path.{◌≡◌, refl}
 use mathlib.Core.List.{List, ◌++◌}
-use Prim.Native.Nat.{ℕ, ◌+◌, ◌*◌, ◌≤◌, ◌<◌, ◌^◌}
+use Prim.Native.Nat.{ℕ, ◌+◌, ◌*◌, ◌<◌, ◌^◌}
 use native.Mathlib.Omega.{arith}
 use borrow.Author.Rules.{rules}
 use borrow.Author.Tests.{ne_eqb}
 use Rattle.jsx.specs.Table.{accepted, refused}
 use Rattle.jsx.specs.Program.{row_lines, printed}
-use Rattle.put.specs.Text.{Prints, row_bytes, ok_line, no_line}
+use Rattle.put.specs.Text.{row_bytes, ok_line, no_line}
+use Rattle.put.specs.Puts.{Puts}
+use Rattle.put.specs.declared.text.Text.{Text}
 use Rattle.put.proofs.Steps.{then, said}
-use Rattle.stage.specs.declared.Reply.{Reply}
-use Rattle.stage.specs.declared.Reply.TheVariants.{Accepted, Refused}
-use Rattle.stage.specs.Call.{outcome, Numbered}
+use Rattle.std.specs.Prelude.{Result, Ok, Err}
+use Rattle.lex.specs.declared.refusal.Reason.{Reason}
+use Rattle.lex.specs.declared.refusal.Refusal.{Refusal}
+use Rattle.lex.specs.Answer.{number, refused as refusal_of}
+use Rattle.stage.specs.Call.{outcome, replied}
 use Rattle.print.specs.Answer.{most, Small}
 
 -- What is printed of an acceptance,
@@ -19,48 +23,46 @@ accepted_is : (m : ℕ) (t : List ℕ) → ok_line m ++ row_lines t m 0 ≡ prin
 unfolding ok_line printed accepted
 accepted_is m t = refl
 
--- and of a refusal that has a number.
-pub refused_is : (n a b c d : ℕ) (t : List ℕ) → 1 ≤ n → no_line n a b c d ≡ printed (refused n a b c d t)
+-- and of a refusal, whose number is not that of an acceptance.
+numbered : (e : Reason) → number e ≡ 0 → ⊥
+numbered e h = grind (arith, h)
+
+pub refused_is : (e : Reason) (a b c d : ℕ) (t : List ℕ)
+    → no_line (number e) a b c d ≡ printed (refused (number e) a b c d t)
 unfolding no_line printed refused
-refused_is n a b c d t h = let e = ne_eqb n 0 (λ e. absurd (omega arith)) in rw e
+refused_is e a b c d t = let f = ne_eqb (number e) 0 (numbered e) in rw f
 
 -- The count and the rows.
-pub answer_rows : (t : List ℕ) {x : Reply} {m m₁ l k p r at : ℕ} {o o₁ o₂ : List ℕ} → x ≡ Accepted m
-    → Prints p at 24 (ok_line m₁) o o₁
-    → Prints r p (row_bytes * l) (row_lines t l k) o₁ o₂
+pub answer_rows : (t : List ℕ) {x : Result ℕ Refusal} {m m₁ l k : ℕ} {a b c : Text} → x ≡ Ok m
+    → Puts 24 (ok_line m₁) a b
+    → Puts (row_bytes * l) (row_lines t l k) b c
     → m₁ ≡ m
     → l ≡ m
     → k ≡ 0
-    → Prints r at (most x) (printed (outcome x t)) o o₂
+    → Puts (most (replied x)) (printed (outcome (replied x) t)) a c
 answer_rows t {m = m} h x y e f g =
     let x₁ = rw e at x in
     let y₁ = rw (f, g) at y in
     rw h (said (then x₁ y₁) (accepted_is m t) (omega arith))
 
 -- A refusal's line.
-pub answer_no : (t : List ℕ) {x : Reply} {n a b c d n₁ a₁ b₁ c₁ d₁ r at : ℕ} {o o' : List ℕ} → Numbered x
-    → x ≡ Refused n a b c d
-    → Prints r at 108 (no_line n₁ a₁ b₁ c₁ d₁) o o'
-    → n₁ ≡ n
-    → a₁ ≡ a
-    → b₁ ≡ b
-    → c₁ ≡ c
-    → d₁ ≡ d
-    → Prints r at (most x) (printed (outcome x t)) o o'
-answer_no t {x} {n} {a} {b} {c} {d} v h w en ea eb ec ed =
-    let v₁ : Numbered (Refused n a b c d) = subst Numbered h v in
-    let w₁ = rw (en, ea, eb, ec, ed) at w in
-    rw h (said w₁ (refused_is n a b c d t v₁) (omega arith))
+pub answer_no : (t : List ℕ) {x : Result ℕ Refusal} {e f : Refusal} {a b : Text} → x ≡ Err e
+    → Puts 108 (no_line (number f.reason) f.first.start f.first.end f.second.start f.second.end) a b
+    → f ≡ e
+    → Puts (most (replied x)) (printed (outcome (replied x) t)) a b
+unfolding refusal_of
+answer_no t {e = e} h y g =
+    rw h (said (rw g at y) (refused_is e.reason e.first.start e.first.end e.second.start e.second.end t) (omega arith))
 
-module _ {x : Reply} {m : ℕ} (v : Small x) (h : x ≡ Accepted m) where
+module _ {x : Result ℕ Refusal} {m : ℕ} (v : Small (replied x)) (h : x ≡ Ok m) where
   -- The record numbers of an acceptance are words,
   pub rows_fit : {n k : ℕ} → n ≡ m → k ≡ 0 → k + n < 2 ^ 32
-  rows_fit e f = let w : m < 2 ^ 32 = subst Small h v in omega arith
+  rows_fit e f = let w : m < 2 ^ 32 = rw h at v in omega arith
 
   -- and its text ends at a number.
-  pub rows_room : {at p y n : ℕ} {u o o₁ : List ℕ} → at < 2 ^ 60 → Prints p at 24 u o o₁ → y ≡ p → n ≡ m
-      → y + row_bytes * n < 2 ^ 62
-  rows_room i x e f = let w : m < 2 ^ 32 = subst Small h v in let z = x.near in omega arith
+  pub rows_room : {n : ℕ} {u : List ℕ} {a b : Text} → a.end < 2 ^ 60 → Puts 24 u a b → n ≡ m
+      → b.end + row_bytes * n < 2 ^ 62
+  rows_room i x e = let w : m < 2 ^ 32 = rw h at v in let z = x.put.near in omega arith
 
 pub ruleset answer_steps = (rules, answer_rows, answer_no)
 

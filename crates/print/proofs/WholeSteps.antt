@@ -14,40 +14,36 @@ use Rattle.jsx.specs.Table.{holds, written, read_into, read}
 use Rattle.jsx.specs.Program.{printed, program_limits, program_table, output}
 use Rattle.jsx.proofs.Calls.{too_long_lem}
 use Rattle.table.proofs.Laws.{sets_written}
-use Rattle.stage.specs.declared.Reply.{Reply}
-use Rattle.stage.specs.declared.Reply.TheVariants.{Accepted, Refused}
-use Rattle.stage.specs.Call.{outcome, Reads}
+use Rattle.std.specs.Prelude.{Result}
+use Rattle.lex.specs.declared.refusal.Reason.TheVariants as R
+use Rattle.lex.specs.declared.refusal.Refusal.{Refusal}
+use Rattle.lex.specs.Answer.{No, number, refused}
+use Rattle.stage.specs.Reply.{Reply, Accepted, Refused}
+use Rattle.stage.specs.Call.{outcome, replied, Reads}
 use Rattle.stage.proofs.Demand2.{stage_writes, reads_fit}
 use Rattle.put.specs.Text.{Prints, no_line}
+use Rattle.put.specs.Puts.{Puts}
+use Rattle.put.specs.declared.text.Text.{Text}
 use Rattle.print.specs.Answer.{Whole, text_room, most, Small}
+use Rattle.put.proofs.Steps.{said}
 use Rattle.print.proofs.Steps.{refused_is}
 
--- A text that fits, put at the front, is the front.
-fronted : {r k : ℕ} {u o o' : List ℕ} → Prints r 0 k u o o' → k ≤ length o → Whole r u o'
-unfolding written
-fronted {r} {k} {u} {o} {o'} x h =
-    let e = x.ends in
-    let f = x.near in
-    let n : length o' ≡ length o = ap length x.is ∙ length-sets o 0 u in
-    let l : length u ≤ length o = omega arith in
-    let w : length u ≡ r = omega arith in
-    let b : r ≤ length o' = omega arith in
-    record {
-      inside = b;
-      counts = sym (length-take-le r o' b);
-      is = ap (take r) (x.is ∙ sets_written u o l) ∙ take_at u (drop (length u) o) r w;
-    }
-
 -- An input that is too long for the program.
-pub whole_long : (s : List ℕ) {r : ℕ} {o o' : List ℕ} → text_room 2_048 ≤ length o → 65_536 < length s
-    → Prints r 0 108 (no_line 1 0 0 0 0) o o'
-    → Whole r (output s) o'
-unfolding output read read_into program_limits
-whole_long s {o' = o'} i h x =
-    let e = refused_is 1 0 0 0 0 program_table (omega arith)
-    ∙ ap (λ (y : Answer). printed (read_into program_table y)) (sym (too_long_lem program_limits stage s h)) in
-    let w = fronted x (omega arith) in
-    record { inside = w.inside; counts = w.counts; is = w.is ∙ e }
+pub output_long : (s : List ℕ) (e : Refusal) {a b : Text} → refused e ≡ No 1 0 0 0 0
+    → Puts 108 (no_line (number e.reason) e.first.start e.first.end e.second.start e.second.end) a b
+    → 65_536 < length s
+    → Puts (text_room 2_048) (output s) a b
+unfolding output read read_into program_limits refused
+output_long s e q x h =
+    let n : number e.reason ≡ 1 = cc q in
+    let f : e.first.start ≡ 0 = cc q in
+    let g : e.first.end ≡ 0 = cc q in
+    let k : e.second.start ≡ 0 = cc q in
+    let l : e.second.end ≡ 0 = cc q in
+    said (rw (n, f, g, k, l) at x)
+    (refused_is R.TooLong 0 0 0 0 program_table
+    ∙ ap (λ (y : Answer). printed (read_into program_table y)) (sym (too_long_lem program_limits stage s h)))
+    (omega arith)
 
 -- Within the program's length its limits answer as document 01's do.
 same_answer : (s : List ℕ) → length s ≤ 65_536 → answer standard stage s ≡ answer program_limits stage s
@@ -68,10 +64,10 @@ zeros_are : zeros ≡ program_table
 unfolding program_table
 zeros_are = refl
 
-module _ {s t t' : List ℕ} {r : Reply} (z : t ≡ zeros) (v : Reads stage s t r t') where
+module _ {s t t' : List ℕ} (r : Result ℕ Refusal) (z : t ≡ zeros) (v : Reads stage s t (replied r) t') where
   -- Of the program's table, the count is a word,
-  pub whole_small : {x : Reply} → x ≡ r → Small x
-  whole_small e = rw e (by r v)
+  pub output_small : Small (replied r)
+  output_small = by (replied r) v
     where
       by : (r : Reply) → Reads stage s t r t' → Small r
       by (Accepted m) w =
@@ -80,8 +76,8 @@ module _ {s t t' : List ℕ} {r : Reply} (z : t ≡ zeros) (v : Reads stage s t 
           omega arith
       by (Refused n a b c d) w = tt
 
-  few : most r ≤ text_room 2_048
-  few = by r v
+  few : most (replied r) ≤ text_room 2_048
+  few = by (replied r) v
     where
       by : (r : Reply) → Reads stage s t r t' → most r ≤ text_room 2_048
       by (Accepted m) w =
@@ -91,19 +87,37 @@ module _ {s t t' : List ℕ} {r : Reply} (z : t ≡ zeros) (v : Reads stage s t 
       by (Refused n a b c d) w = omega arith
 
   -- and the text of the answer is the program's.
-  pub whole_answer : {y : ℕ} {x : Reply} {o o' : List ℕ} → text_room 2_048 ≤ length o → length s ≤ 65_536
-      → Prints y 0 (most x) (printed (outcome x t')) o o'
-      → x ≡ r
-      → Whole y (output s) o'
+  pub output_answer : {a b : Text} → Puts (most (replied r)) (printed (outcome (replied r) t')) a b → length s ≤ 65_536
+      → Puts (text_room 2_048) (output s) a b
   unfolding output read
-  whole_answer {o' = o'} i h p e =
-      let p₁ = rw e at p in
-      let w = fronted p₁ (omega (arith, few)) in
-      let f = ap printed (v.is
+  output_answer p h =
+      said p
+      (ap printed (v.is
       ∙ ap (read_into t) (same_answer s h)
-      ∙ ap (λ (u : List ℕ). read_into u (answer program_limits stage s)) (z ∙ zeros_are)) in
-      record { inside = w.inside; counts = w.counts; is = w.is ∙ f }
+      ∙ ap (λ (u : List ℕ). read_into u (answer program_limits stage s)) (z ∙ zeros_are)))
+      few
 
-pub ruleset whole_steps = (rules, whole_long, whole_answer)
+pub ruleset output_steps = (rules, output_long, output_answer)
 
-pub ruleset whole_asked = (rules, whole_small)
+pub ruleset output_asked = (rules, output_small)
+
+-- ---- at the front of a buffer
+
+-- A text that fits, put at the front, is the front.
+pub fronted : {r : ℕ} {u o o' : List ℕ} → text_room 2_048 ≤ length o → Prints r 0 (text_room 2_048) u o o'
+    → Whole r u o'
+unfolding written
+fronted {r} {u} {o} {o'} h x =
+    let e = x.ends in
+    let f = x.near in
+    let n : length o' ≡ length o = ap length x.is ∙ length-sets o 0 u in
+    let l : length u ≤ length o = omega arith in
+    let w : length u ≡ r = omega arith in
+    let b : r ≤ length o' = omega arith in
+    record {
+      inside = b;
+      counts = sym (length-take-le r o' b);
+      is = ap (take r) (x.is ∙ sets_written u o l) ∙ take_at u (drop (length u) o) r w;
+    }
+
+pub ruleset whole_steps = (rules, fronted)

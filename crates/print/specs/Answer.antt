@@ -1,8 +1,7 @@
 -- The text of an answer: how long it is at most, and when it is whole.
 use Rattle.std.specs.Prelude.{ℕ, ◌+◌, ◌*◌, ◌≤◌, ◌<◌, ◌^◌, ◌≡◌, List, length, take}
 use Rattle.put.specs.Text.{row_bytes}
-use Rattle.stage.specs.declared.Reply.{Reply}
-use Rattle.stage.specs.declared.Reply.TheVariants.{Accepted, Refused}
+use Rattle.stage.specs.Reply.{Reply, Accepted, Refused}
 
 -- The first r bytes of out are the text. (`counts` follows from `inside`; both are what `&out[..r]` asks.)
 pub record Whole (r : ℕ) (text : List ℕ) (out : List ℕ) : Type 0 where

@@ -1,26 +1,29 @@
 -- Texts put one behind the other: what each need of the writers follows from.
 use mathlib.Core.Path.{◌≡◌, refl, sym, ap, ◌∙◌}
-use mathlib.Core.List.{List, [], ◌∷◌, ◌++◌, append_assoc}
-use Prim.Native.Char.{code}
-use Prim.Native.Nat.{ℕ, zero, suc, ◌+◌, ◌-◌, ◌*◌, ◌/◌, ◌%◌, ◌≤◌, ◌<◌}
+use mathlib.Core.List.{List, [], ◌∷◌, ◌++◌, append_assoc, append-nil}
+use Prim.Native.Nat.{ℕ, zero, suc, ◌+◌, ◌*◌, ◌≤◌, ◌<◌}
 use native.Mathlib.Omega.{arith}
-use lib.ListN.{length, set, get_or, length-append}
-use lib.Seq.{sets, set_out}
+use lib.ListN.{length, get_or, take, length-append}
+use lib.Seq.{sets}
+use Rattle.std.proofs.lemmas.List.{take_more}
 use borrow.Author.Rules.{rules}
-use borrow.Author.Tests.{lt-ltb, le-ltb, eq-eqb, ne_eqb}
+use borrow.Author.Tests.{eq-eqb, ne_eqb}
+use Rattle.io.specs.Digits.{last_digits, IsDigitCount}
 use Rattle.rules.specs.Record.{row_words}
-use Rattle.jsx.specs.Byte.{bytes_of}
 use Rattle.jsx.specs.Table.{missing, table_word}
-use Rattle.jsx.specs.Program.{decimal_up_to, decimal, field, parent_field, row_line, row_lines}
+use Rattle.jsx.specs.Program.{decimal, field, parent_field, row_line, row_lines}
 use Rattle.table.proofs.Laws.{sets_append}
-use Rattle.put.specs.Text.{Prints, field_at, span_fields, tree_fields, ok_line, no_line, set_line, row_bytes}
+use Rattle.put.proofs.Digits.{decimal_is}
+use Rattle.put.specs.Text.{Prints, field_at, ok_line, no_line, set_line, row_bytes}
+use Rattle.put.specs.Puts.{Puts}
+use Rattle.put.specs.declared.text.Text.{Text}
 
 -- ---- any texts
 
--- One behind the other.
-pub then : {p q at j k : ℕ} {u v : List ℕ} {o o₁ o₂ : List ℕ} → Prints p at j u o o₁ → Prints q p k v o₁ o₂
+-- One behind the other,
+behind : {p q at j k : ℕ} {u v : List ℕ} {o o₁ o₂ : List ℕ} → Prints p at j u o o₁ → Prints q p k v o₁ o₂
     → Prints q at (j + k) (u ++ v) o o₂
-then {p} {q} {at} {j} {k} {u} {v} {o} x y =
+behind {p} {q} {at} {j} {k} {u} {v} {o} x y =
     let n = length-append u v in
     let e = x.ends in
     let f = y.ends in
@@ -34,226 +37,146 @@ then {p} {q} {at} {j} {k} {u} {v} {o} x y =
           ∙ sym (sets_append u v o at);
     }
 
+pub then : {j k : ℕ} {u v : List ℕ} {a b c : Text} → Puts j u a b → Puts k v b c → Puts (j + k) (u ++ v) a c
+then x y = record { lent = y.lent ∙ x.lent; long = y.long ∙ x.long; put = behind x.put y.put }
+
 -- The same text, said otherwise, with a longer bound.
-pub said : {r at j k : ℕ} {u v o o' : List ℕ} → Prints r at j u o o' → u ≡ v → j ≤ k → Prints r at k v o o'
-said {at = at} {o = o} x e h =
-    let f = x.near in
+pub said : {j k : ℕ} {u v : List ℕ} {a b : Text} → Puts j u a b → u ≡ v → j ≤ k → Puts k v a b
+said {a = a} x e h =
+    let f = x.put.near in
     record {
-      ends = x.ends ∙ ap (λ (l : List ℕ). at + length l) e;
-      near = omega arith;
-      is = x.is ∙ ap (sets o at) e;
+      lent = x.lent;
+      long = x.long;
+      put = record {
+        ends = x.put.ends ∙ ap (λ (l : List ℕ). a.end + length l) e;
+        near = omega arith;
+        is = x.put.is ∙ ap (sets a.bytes.now a.end) e;
+      };
     }
 
 -- No text.
-none : (at : ℕ) (o : List ℕ) → Prints at at 0 [] o o
-none at o = record { ends = omega arith; near = omega arith; is = refl }
+none : (a : Text) → Puts 0 [] a a
+none a = record { lent = refl; long = refl; put = record { ends = omega arith; near = omega arith; is = refl } }
 
 -- ---- bytes
 
--- A byte is put where it fits,
-pub byte_put : (at b : ℕ) (o : List ℕ) → Prints (at + 1) at 1 (b ∷ []) o (set o at b)
-byte_put at b o = record { ends = omega arith; near = omega arith; is = refl }
+-- One more of some bytes.
+pub byte_more : (l : List ℕ) (i : ℕ) {x : ℕ} {a b c : Text} → i < length l → Puts i (take i l) a b
+    → Puts 1 (x ∷ []) b c
+    → x ≡ get_or l i 0
+    → Puts (i + 1) (take (i + 1) l) a c
+byte_more l i h x y e = said (then x y) (rw (e, take_more l i 0 h)) (omega arith)
 
--- and nowhere else.
-pub byte_out : (at b : ℕ) (o : List ℕ) → length o ≤ at → Prints (at + 1) at 1 (b ∷ []) o o
-byte_out at b o h = record { ends = omega arith; near = omega arith; is = sym (set_out o at b h) }
-
--- Two bytes.
-pub two_put : {p q at a b : ℕ} {o o₁ o₂ : List ℕ} → Prints p at 1 (a ∷ []) o o₁ → Prints q p 1 (b ∷ []) o₁ o₂
-    → Prints q at 2 (a ∷ b ∷ []) o o₂
-two_put x y = then x y
-
-pub ruleset byte_steps = (rules, byte_put, byte_out, two_put)
+pub ruleset byte_steps = (rules, byte_more)
 
 -- ---- numbers
 
--- No digit.
-pub digits_none : {f : ℕ} (at n : ℕ) (o : List ℕ) → f ≡ 0 → Prints at at f (decimal_up_to f n) o o
-unfolding decimal_up_to
-digits_none at n o e = rw e (none at o)
-
-module _ {f at n : ℕ} {o : List ℕ} (some : f ≡ 0 → ⊥) where
-  -- One digit.
-  pub digits_one : {r b : ℕ} {o' : List ℕ} → n < 10 → Prints r at 1 (b ∷ []) o o' → b ≡ code "0" + n
-      → Prints r at f (decimal_up_to f n) o o'
-  unfolding decimal_up_to
-  digits_one {r} {b} {o'} h x e = by f some
-    where
-      by : (f : ℕ) → (f ≡ 0 → ⊥) → Prints r at f (decimal_up_to f n) o o'
-      by zero g = absurd (g refl)
-      by (suc g) _ =
-          let t = lt-ltb n 10 h in
-          let m : n % 10 ≡ n = omega arith in
-          said x (rw (t, m, e)) (omega arith)
-
-  -- The last digit, behind the others.
-  pub digits_more : {p r b c g : ℕ} {o₁ o₂ : List ℕ} → 10 ≤ n → Prints p at g (decimal_up_to g c) o o₁
-      → Prints r p 1 (b ∷ []) o₁ o₂
-      → g ≡ f - 1
-      → c ≡ n / 10
-      → b ≡ code "0" + n % 10
-      → Prints r at f (decimal_up_to f n) o o₂
-  unfolding decimal_up_to
-  digits_more {p} {r} {b} {c} {g} {o₁} {o₂} h x y eg ec eb = by f some eg
-    where
-      by : (f : ℕ) → (f ≡ 0 → ⊥) → g ≡ f - 1 → Prints r at f (decimal_up_to f n) o o₂
-      by zero k _ = absurd (k refl)
-      by (suc f') _ k =
-          let t = le-ltb n 10 h in
-          let w : g ≡ f' = omega arith in
-          said (then x y) (rw (t, sym w, sym ec, eb)) (omega arith)
-
--- All digits.
-pub decimal_put : (n : ℕ) {r at : ℕ} {o o' : List ℕ} → Prints r at 20 (decimal_up_to 20 n) o o'
-    → Prints r at 20 (decimal n) o o'
-unfolding decimal
-decimal_put n x = x
+-- The digits that the library gives of a number, as many as it says.
+pub decimal_put : (n k : ℕ) (l : List ℕ) {a b : Text} → Puts (length (take k l)) (take k l) a b
+    → take k l ≡ last_digits 10 k n
+    → IsDigitCount 10 1 n k
+    → k ≡ length (take k l)
+    → k ≤ 20
+    → Puts 20 (decimal n) a b
+decimal_put n k l x e h f m = said x (e ∙ decimal_is n k m h) (omega arith)
 
 -- A blank in front of a number.
-pub field_put : (n : ℕ) {p r at : ℕ} {o o₁ o₂ : List ℕ} → Prints p at 1 (32 ∷ []) o o₁ → Prints r p 20 (decimal n) o₁ o₂
-    → Prints r at 21 (field n) o o₂
+pub field_put : (n : ℕ) {a b c : Text} → Puts 1 (32 ∷ []) a b → Puts 20 (decimal n) b c → Puts 21 (field n) a c
 unfolding field
 field_put n x y = then x y
 
-pub ruleset number_steps = (rules, digits_none, digits_one, digits_more, decimal_put, field_put)
+pub ruleset number_steps = (rules, field_put)
 
 -- ---- rows
 
 -- A dash for the missing parent,
-pub parent_missing : {n r at : ℕ} {o o' : List ℕ} → n ≡ 4_294_967_295 → Prints r at 2 (32 ∷ 45 ∷ []) o o'
-    → Prints r at 21 (parent_field n) o o'
+pub parent_missing : (n : ℕ) {w j : ℕ} {a b : Text} → w ≡ 4_294_967_295 → Puts j (32 ∷ 45 ∷ []) a b → w ≡ n → j ≤ 21
+    → Puts 21 (parent_field n) a b
 unfolding parent_field
-parent_missing {n} h x = let t = eq-eqb n missing h in said x (rw t) (omega arith)
+parent_missing n h x e m = let t = eq-eqb n missing (sym e ∙ h) in said x (rw t) m
 
 -- and any other by its number.
-pub parent_put : {n r at : ℕ} {o o' : List ℕ} → (n ≡ 4_294_967_295 → ⊥) → Prints r at 21 (field n) o o'
-    → Prints r at 21 (parent_field n) o o'
+pub parent_put : (n : ℕ) {w : ℕ} {a b : Text} → (w ≡ 4_294_967_295 → ⊥) → Puts 21 (field w) a b → w ≡ n
+    → Puts 21 (parent_field n) a b
 unfolding parent_field
-parent_put {n} h x = let t = ne_eqb n missing h in said x (rw t) (omega arith)
-
--- A word of the table.
-pub word_put : (t : List ℕ) (k : ℕ) {w v r at : ℕ} {o o' : List ℕ} → w ≡ get_or t k 0 → Prints r at 21 (field v) o o'
-    → v ≡ w
-    → Prints r at 21 (field_at t k) o o'
-word_put t k e x f = said x (ap field (f ∙ e)) (omega arith)
-
-module _ (t : List ℕ) (k : ℕ) {p q r at k₁ k₂ : ℕ} {o o₁ o₂ o₃ : List ℕ} where
-  -- Kind, start and end.
-  pub span_put : Prints p at 21 (field_at t k) o o₁ → Prints q p 21 (field_at t k₁) o₁ o₂
-      → Prints r q 21 (field_at t k₂) o₂ o₃
-      → k₁ ≡ k + 1
-      → k₂ ≡ k + 2
-      → Prints r at 63 (span_fields t k) o o₃
-  unfolding span_fields
-  span_put x y z e₁ e₂ = said (then (then x y) z) (rw (e₁, e₂)) (omega arith)
-
-  -- Parent, `after`, extra and depth.
-  pub tree_put : {w v k₃ k₄ z : ℕ} {o₄ : List ℕ} → w ≡ get_or t k₃ 0 → Prints p at 21 (parent_field v) o o₁
-      → Prints q p 21 (field_at t k₁) o₁ o₂
-      → Prints r q 21 (field_at t k₂) o₂ o₃
-      → Prints z r 21 (field_at t k₄) o₃ o₄
-      → v ≡ w
-      → k₃ ≡ k + 3
-      → k₁ ≡ k + 4
-      → k₂ ≡ k + 5
-      → k₄ ≡ k + 6
-      → Prints z at 84 (tree_fields t k) o o₄
-  unfolding tree_fields
-  tree_put e x y z u f e₃ e₁ e₂ e₄ = said (then (then (then x y) z) u) (rw (f, e, e₃, e₁, e₂, e₄)) (omega arith)
-
--- Three texts behind another, and four.
-three_behind : (d a b c : List ℕ) → d ++ (a ++ b ++ c) ≡ d ++ a ++ b ++ c
-three_behind d a b c = sym (append_assoc d (a ++ b) c) ∙ ap (λ (l : List ℕ). l ++ c) (sym (append_assoc d a b))
-
-four_behind : (d a b c e : List ℕ) → d ++ (a ++ b ++ c ++ e) ≡ d ++ a ++ b ++ c ++ e
-four_behind d a b c e = sym (append_assoc d (a ++ b ++ c) e) ∙ ap (λ (l : List ℕ). l ++ e) (three_behind d a b c)
-
--- A row of fields is the definition's line.
-row_is : (t : List ℕ) (k : ℕ)
-    → decimal k ++ span_fields t (row_words * k) ++ tree_fields t (row_words * k) ++ (10 ∷ []) ≡ row_line t k
-unfolding row_line span_fields tree_fields table_word
-row_is t k =
-    let z : row_words * k ≡ row_words * k + 0 = omega arith in
-    let f : ℕ → List ℕ = λ i. field_at t (row_words * k + i) in
-    let par = parent_field (get_or t (row_words * k + 3) 0) in
-    ap (λ (l : List ℕ). l ++ (par ++ f 4 ++ f 5 ++ f 6) ++ (10 ∷ []))
-    (three_behind (decimal k) (field_at t (row_words * k)) (f 1) (f 2) ∙
-    (λ i. decimal k ++ field_at t (z i) ++ f 1 ++ f 2))
-    ∙ ap (λ (l : List ℕ). l ++ (10 ∷ [])) (four_behind (decimal k ++ f 0 ++ f 1 ++ f 2) par (f 4) (f 5) (f 6))
+parent_put n h x e = let t = ne_eqb n missing (rw e at h) in said x (rw (t, e)) (omega arith)
 
 -- The line of a record.
-pub row_put : (t : List ℕ) (k : ℕ) {p q e r at i j : ℕ} {o o₁ o₂ o₃ o₄ : List ℕ} → Prints p at 20 (decimal k) o o₁
-    → Prints q p 63 (span_fields t i) o₁ o₂
-    → Prints e q 84 (tree_fields t j) o₂ o₃
-    → Prints r e 1 (10 ∷ []) o₃ o₄
-    → i ≡ row_words * k
-    → j ≡ row_words * k
-    → Prints r at row_bytes (row_line t k) o o₄
-row_put t k x y z w f g = said (then (then (then x y) z) w) (rw (f, g) (row_is t k)) (omega arith)
+pub row_put : (t : List ℕ) (k : ℕ) {i k₁ k₂ k₃ k₄ k₅ k₆ : ℕ} {a b c d e f g h r s : Text} → Puts 20 (decimal k) a b
+    → Puts 21 (field_at t i) b c
+    → Puts 21 (field_at t k₁) c d
+    → Puts 21 (field_at t k₂) d e
+    → Puts 21 (parent_field (get_or t k₃ 0)) e f
+    → Puts 21 (field_at t k₄) f g
+    → Puts 21 (field_at t k₅) g h
+    → Puts 21 (field_at t k₆) h r
+    → Puts 1 (10 ∷ []) r s
+    → i ≡ row_words * k + 0
+    → k₁ ≡ row_words * k + 1
+    → k₂ ≡ row_words * k + 2
+    → k₃ ≡ row_words * k + 3
+    → k₄ ≡ row_words * k + 4
+    → k₅ ≡ row_words * k + 5
+    → k₆ ≡ row_words * k + 6
+    → Puts row_bytes (row_line t k) a s
+unfolding row_line table_word
+row_put t k x y₀ y₁ y₂ y₃ y₄ y₅ y₆ z e₀ e₁ e₂ e₃ e₄ e₅ e₆ =
+    said (then (then (then (then (then (then (then (then x y₀) y₁) y₂) y₃) y₄) y₅) y₆) z)
+    (rw (e₀, e₁, e₂, e₃, e₄, e₅, e₆))
+    (omega arith)
 
--- No record.
-pub rows_none : (t : List ℕ) {left : ℕ} (at k : ℕ) (o : List ℕ) → left ≡ 0
-    → Prints at at (row_bytes * left) (row_lines t left k) o o
+-- One more record.
+line_behind : (t : List ℕ) (n k : ℕ) → row_lines t n k ++ row_line t (k + n) ≡ row_lines t (n + 1) k
 unfolding row_lines
-rows_none t at k o e = rw e (none at o)
+line_behind t zero k = let e : k + 0 ≡ k = omega arith in rw e (sym (append-nil (row_line t k)))
+line_behind t (suc n) k =
+    let e : k + suc n ≡ (k + 1) + n = omega arith in
+    let f : suc n + 1 ≡ suc (n + 1) = omega arith in
+    rw (e, f) (append_assoc (row_line t k) (row_lines t n (k + 1)) (row_line t (k + 1 + n))
+    ∙ ap (λ (l : List ℕ). row_line t k ++ l) (line_behind t n (k + 1)))
 
--- One record, and those behind it.
-pub rows_more : (t : List ℕ) (k : ℕ) {left p r at l i : ℕ} {o o₁ o₂ : List ℕ} → (left ≡ 0 → ⊥)
-    → Prints p at row_bytes (row_line t k) o o₁
-    → Prints r p (row_bytes * l) (row_lines t l i) o₁ o₂
-    → l ≡ left - 1
-    → i ≡ k + 1
-    → Prints r at (row_bytes * left) (row_lines t left k) o o₂
+pub rows_none : (t : List ℕ) (k : ℕ) (a : Text) → Puts 0 (row_lines t 0 k) a a
 unfolding row_lines
-rows_more t k {left} {p} {r} {at} {l} {i} {o} {o₁} {o₂} h x y e f = by left h e
-  where
-    by : (left : ℕ) → (left ≡ 0 → ⊥) → l ≡ left - 1 → Prints r at (row_bytes * left) (row_lines t left k) o o₂
-    by zero g _ = absurd (g refl)
-    by (suc n) _ g = let w : l ≡ n = omega arith in said (then x y) (rw (f, w)) (omega arith)
+rows_none t k a = none a
 
-pub ruleset row_steps = (rules, parent_missing, parent_put, word_put, span_put, tree_put, row_put, rows_none, rows_more)
+pub rows_more : (t : List ℕ) (i k : ℕ) {a b c : Text} → Puts (row_bytes * i) (row_lines t i k) a b
+    → Puts row_bytes (row_line t (k + i)) b c
+    → Puts (row_bytes * (i + 1)) (row_lines t (i + 1) k) a c
+rows_more t i k x y = said (then x y) (line_behind t i k) (omega arith)
+
+pub ruleset row_steps = (rules, parent_missing, parent_put, row_put, rows_none, rows_more)
 
 -- ---- first lines
 
 -- The first line of an acceptance.
-pub ok_put : (m : ℕ) {p q r at : ℕ} {o o₁ o₂ o₃ : List ℕ} → Prints p at 2 (111 ∷ 107 ∷ []) o o₁
-    → Prints q p 21 (field m) o₁ o₂
-    → Prints r q 1 (10 ∷ []) o₂ o₃
-    → Prints r at 24 (ok_line m) o o₃
+pub ok_put : (m : ℕ) {j : ℕ} {a b c d : Text} → Puts j (111 ∷ 107 ∷ []) a b → Puts 21 (field m) b c
+    → Puts 1 (10 ∷ []) c d
+    → j ≤ 2
+    → Puts 24 (ok_line m) a d
 unfolding ok_line
-ok_put m x y z = then (then x y) z
-
--- A place.
-pub place_put : (a b : ℕ) {p r at : ℕ} {o o₁ o₂ : List ℕ} → Prints p at 21 (field a) o o₁
-    → Prints r p 21 (field b) o₁ o₂
-    → Prints r at 42 (field a ++ field b) o o₂
-place_put a b x y = then x y
+ok_put m x y z h = said (then (then x y) z) refl (omega arith)
 
 -- The line of a refusal.
-pub no_put : (n a b c d : ℕ) {p q e f r at : ℕ} {o o₁ o₂ o₃ o₄ o₅ : List ℕ} → Prints p at 2 (110 ∷ 111 ∷ []) o o₁
-    → Prints q p 21 (field n) o₁ o₂
-    → Prints e q 42 (field a ++ field b) o₂ o₃
-    → Prints f e 42 (field c ++ field d) o₃ o₄
-    → Prints r f 1 (10 ∷ []) o₄ o₅
-    → Prints r at 108 (no_line n a b c d) o o₅
+pub no_put : (n p q r s : ℕ) {i j : ℕ} {a b c d e f g h : Text} → Puts j (110 ∷ 111 ∷ []) a b → Puts 21 (field i) b c
+    → Puts 21 (field p) c d
+    → Puts 21 (field q) d e
+    → Puts 21 (field r) e f
+    → Puts 21 (field s) f g
+    → Puts 1 (10 ∷ []) g h
+    → j ≤ 2
+    → i ≡ n
+    → Puts 108 (no_line n p q r s) a h
 unfolding no_line
-no_put n a b c d x y z w v =
-    let front = bytes_of "no" ++ field n in
-    said (then (then (then (then x y) z) w) v)
-    (ap (λ (l : List ℕ). l ++ (field c ++ field d) ++ (10 ∷ [])) (sym (append_assoc front (field a) (field b)))
-    ∙ ap (λ (l : List ℕ). l ++ (10 ∷ [])) (sym (append_assoc (front ++ field a ++ field b) (field c) (field d))))
-    (omega arith)
+no_put n p q r s x y₁ y₂ y₃ y₄ y₅ z l e =
+    said (then (then (then (then (then (then x y₁) y₂) y₃) y₄) y₅) z) (rw e) (omega arith)
 
 -- The line of a store that sets limits.
-pub set_put : (d n : ℕ) {p q e r at : ℕ} {o o₁ o₂ o₃ o₄ : List ℕ} → Prints p at 2 (115 ∷ 101 ∷ []) o o₁
-    → Prints q p 1 (116 ∷ []) o₁ o₂
-    → Prints e q 42 (field d ++ field n) o₂ o₃
-    → Prints r e 1 (10 ∷ []) o₃ o₄
-    → Prints r at 46 (set_line d n) o o₄
+pub set_put : (d n : ℕ) {j : ℕ} {a b c e f : Text} → Puts j (115 ∷ 101 ∷ 116 ∷ []) a b → Puts 21 (field d) b c
+    → Puts 21 (field n) c e
+    → Puts 1 (10 ∷ []) e f
+    → j ≤ 3
+    → Puts 46 (set_line d n) a f
 unfolding set_line
-set_put d n x y z w =
-    said (then (then (then x y) z) w)
-    (ap (λ (l : List ℕ). l ++ (10 ∷ [])) (sym (append_assoc (bytes_of "set") (field d) (field n))))
-    (omega arith)
+set_put d n x y z w h = said (then (then (then x y) z) w) refl (omega arith)
 
-pub ruleset first_line_steps = (rules, ok_put, place_put, no_put, set_put)
+pub ruleset first_line_steps = (rules, ok_put, no_put, set_put)

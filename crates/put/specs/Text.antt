@@ -3,7 +3,7 @@ use Rattle.std.specs.Prelude.{ℕ, ◌+◌, ◌*◌, ◌≤◌, ◌≡◌, List,
 use Rattle.std.proofs.lemmas.List.Edits.{sets}
 use Rattle.rules.specs.Record.{row_words}
 use Rattle.jsx.specs.Byte.{bytes_of}
-use Rattle.jsx.specs.Program.{field, parent_field}
+use Rattle.jsx.specs.Program.{field}
 
 -- From out to out' the text was put at the place `at`, each byte where it fits; r is the place behind it, at most k on.
 pub record Prints (r at k : ℕ) (text : List ℕ) (out out' : List ℕ) : Type 0 where
@@ -14,14 +14,6 @@ pub record Prints (r at k : ℕ) (text : List ℕ) (out out' : List ℕ) : Type 
 -- The field of the word k of a table.
 abbrev pub field_at : List ℕ → (k : ℕ) → List ℕ
 field_at t k = field (get_or t k 0)
-
--- The fields of the row that begins at the word k: kind, start and end;
-unfoldable pub span_fields : List ℕ → (k : ℕ) → List ℕ
-span_fields t k = field_at t k ++ field_at t (k + 1) ++ field_at t (k + 2)
-
--- parent, `after`, extra and depth.
-unfoldable pub tree_fields : List ℕ → (k : ℕ) → List ℕ
-tree_fields t k = parent_field (get_or t (k + 3) 0) ++ field_at t (k + 4) ++ field_at t (k + 5) ++ field_at t (k + 6)
 
 -- The most bytes of a record's line: its number of 20 digits, a field of 21 for each word, and the line's end.
 abbrev pub row_bytes : ℕ

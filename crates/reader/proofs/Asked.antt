@@ -8,7 +8,7 @@ use Prim.Native.Nat.{ℕ, ◌+◌, ◌*◌, ◌≤◌, ◌<◌, ◌^◌}
 use native.Mathlib.Omega.{arith}
 use lib.Dec.{lit<}
 use lib.ListN.{length}
-use borrow.Author.Rules.{rules}
+use Rattle.lex.proofs.Results.{results}
 use mir.Syntax.{w64}
 use mir.Val.{Fits}
 use Rattle.rules.specs.Forest.{Forest}
@@ -22,8 +22,8 @@ use Rattle.jsx.specs.Name.{opens_name}
 use Rattle.jsx.specs.Text.{in_text}
 use Rattle.jsx.specs.Expression.{Inner}
 use Rattle.lex.specs.Contract.{nothing, Leaf, Past}
-use Rattle.lex.specs.declared.Ans.{Ans}
-use Rattle.lex.specs.declared.Ans.TheVariants as A
+use Rattle.lex.specs.Answer.{Ans}
+use Rattle.lex.specs.Answer as A
 use Rattle.lex.proofs.Laws as Lex
 use Rattle.table.specs.Slot.{Seat, seat_inside, seat_behind}
 use Rattle.table.specs.Contract.{Enterable, Words}
@@ -31,9 +31,8 @@ use Rattle.table.specs.Reader.{Room, Made}
 use Rattle.table.proofs.Asked.{reader_asked, room_here, leaf_inside, past_inside}
 use Rattle.closing.specs.declared.Opened.{Opened}
 use Rattle.closing.specs.Close.{Opening}
-use Rattle.reader.specs.declared.Tagged.{Tagged}
-use Rattle.reader.specs.declared.Tagged.TheVariants as T
-use Rattle.reader.specs.Contract.{plain, TagMade, Ready}
+use Rattle.reader.specs.Contract as T
+use Rattle.reader.specs.Contract.{TagAns, plain, TagMade, Ready}
 use Rattle.token.proofs.Rules as K
 use Rattle.reader.proofs.Steps.{cycle_asked, node_asked}
 
@@ -182,23 +181,23 @@ module _ {c : ℕ} {s : List ℕ} {at : ℕ} {q : Seat} (room : Room c s at q) {
 
 pub ruleset asked = (cycle_asked, leaf_one_more)
 
-pub ruleset primary_asked = (rules, room_here, seen_name, seen_digit, seen_quote, paren_inside)
+pub ruleset primary_asked = (results, room_here, seen_name, seen_digit, seen_quote, paren_inside)
 
-pub ruleset tail_asked = (rules, room_here, bracket_inside, paren_inside)
+pub ruleset tail_asked = (results, room_here, bracket_inside, paren_inside)
 
-pub ruleset unary_asked = (rules, room_here, bang_inside, dash_inside, less_inside)
+pub ruleset unary_asked = (results, room_here, bang_inside, dash_inside, less_inside)
 
 pub ruleset lone_asked = (cycle_asked, passed)
 
 pub ruleset cond_asked = (cycle_asked, question_inside)
 
-pub ruleset value_asked = (rules, room_here, leaf_inside, seen_quote, brace_inside, less_inside, passed, leaf_one_more)
+pub ruleset value_asked = (results, room_here, leaf_inside, seen_quote, brace_inside, less_inside, passed, leaf_one_more)
 
 pub ruleset attr_asked = (node_asked, brace_inside, passed)
 
-pub ruleset element_asked = (rules, room_here, past_inside, passed_on, seen_byte)
+pub ruleset element_asked = (results, room_here, past_inside, passed_on, seen_byte)
 
-pub ruleset child_asked = (rules, room_here, seen_text, less_inside, brace_inside, passed, seen_byte)
+pub ruleset child_asked = (results, room_here, seen_text, less_inside, brace_inside, passed, seen_byte)
 
 pub ruleset wrapped_asked = (node_asked, past_room)
 
@@ -272,7 +271,7 @@ pub opening_on : {s : List ℕ} {o : Opened} → Opening s o → {u : List ℕ} 
 opening_on v e f = rw (e, f) v
 
 pub ruleset content_asked = (
-  rules,
+  results,
   content_enter,
   content_behind_lem,
   content_next,
@@ -289,7 +288,7 @@ pub ruleset content_asked = (
 
 module _ {s : List ℕ} {at : ℕ} {q : Seat} (room : Room 3 s at q) {a : ℕ} (pa : Past a s pass at 1) (t : List ℕ)
     {q₂ : Seat}
-    {r : Tagged} {n : Inner} {t₁ t₂ : List ℕ} (l : TagMade r s n a q₂ t₁ t₂)
+    {r : TagAns} {n : Inner} {t₁ t₂ : List ℕ} (l : TagMade r s n a q₂ t₁ t₂)
     {z m e k g : ℕ} (h : r ≡ T.Got z m e k g) where
   tag_far : (2 * a + m ≤ 2 * z) × (z ≤ length s) × (a + 2 ≤ z)
   unfolding plain

@@ -30,8 +30,7 @@ use Rattle.jsx.specs.Tag.{value, initializer, named_attribute, attribute}
 use Rattle.jsx.specs.Depth.{within}
 use Rattle.jsx.proofs.Fits.{thrift, nodes_far}
 use Rattle.lex.specs.Contract.{out_of, nothing, Leaf, Past}
-use Rattle.lex.specs.declared.Ans.{Ans}
-use Rattle.lex.specs.declared.Ans.TheVariants.{Got, No}
+use Rattle.lex.specs.Answer.{Ans, Got, No}
 use Rattle.lex.proofs.Laws as Lex
 use Rattle.lex.proofs.Bare.{bare, flat_got, count_flat}
 use Rattle.table.specs.Slot.{Seat, seat_inside, seat_behind}

@@ -29,8 +29,7 @@ use Rattle.jsx.specs.Element.{child, children}
 use Rattle.jsx.specs.Depth.{within}
 use Rattle.jsx.proofs.Goes.{within_goes}
 use Rattle.lex.specs.Contract.{view, out_of, nothing, Leaf}
-use Rattle.lex.specs.declared.Ans.{Ans}
-use Rattle.lex.specs.declared.Ans.TheVariants.{Got, No}
+use Rattle.lex.specs.Answer.{Ans, Got, No}
 use Rattle.lex.proofs.Laws as Lex
 use Rattle.table.specs.Slot.{Seat, seat_behind, rows_from}
 use Rattle.table.specs.Contract.{Start}

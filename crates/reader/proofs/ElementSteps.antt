@@ -17,8 +17,7 @@ use Rattle.jsx.specs.Element.{fragment_in, named_in}
 use Rattle.jsx.specs.Depth.{element_too_deep, within}
 use Rattle.jsx.proofs.Goes.{within_goes}
 use Rattle.lex.specs.Contract.{nothing, Leaf, Past}
-use Rattle.lex.specs.declared.Ans.{Ans}
-use Rattle.lex.specs.declared.Ans.TheVariants.{Got, No}
+use Rattle.lex.specs.Answer.{Ans, Got, No}
 use Rattle.lex.proofs.Laws as Lex
 use Rattle.table.specs.Slot.{Seat}
 use Rattle.table.specs.Reader.{Room, Made}

@@ -23,8 +23,7 @@ use Rattle.jsx.specs.Word.{primary_word, number, string}
 use Rattle.jsx.specs.Expression.{no_sibling, primary, postfix, unary, either, question, conditional, argument_turn}
 use Rattle.jsx.specs.Depth.{within}
 use Rattle.lex.specs.Contract.{nothing, Leaf, expect_byte}
-use Rattle.lex.specs.declared.Ans.{Ans}
-use Rattle.lex.specs.declared.Ans.TheVariants.{Got, No}
+use Rattle.lex.specs.Answer.{Ans, Got, No}
 use Rattle.lex.proofs.Laws as Lex
 use Rattle.lex.proofs.Bare.{bare, goes_blanks, bare_blanks}
 use Rattle.table.specs.Slot.{Seat, seat_behind}

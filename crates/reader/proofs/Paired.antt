@@ -19,8 +19,7 @@ use Rattle.jsx.specs.Tag.{close_tag}
 use Rattle.jsx.specs.Closing.{verdict}
 use Rattle.jsx.specs.Element.{children}
 use Rattle.lex.specs.Contract.{out_of}
-use Rattle.lex.specs.declared.Ans.{Ans}
-use Rattle.lex.specs.declared.Ans.TheVariants.{Got, No}
+use Rattle.lex.specs.Answer.{Ans, Got, No}
 use Rattle.lex.proofs.Laws as Lex
 use Rattle.lex.proofs.Bare.{Flat, count_flat}
 use Rattle.table.specs.Slot.{Seat, seat_inside, seat_behind, rows_from}

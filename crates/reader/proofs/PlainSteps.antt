@@ -1,35 +1,37 @@
--- Between the two forms of an answer: a tag's and a reader's.
-use mathlib.Core.Path.{◌≡◌, sym, ap}
-use Prim.Native.Nat.{ℕ}
-use borrow.Author.Rules.{rules}
-use Rattle.lex.specs.declared.Ans.{Ans}
-use Rattle.lex.specs.declared.Ans.TheVariants as A
+-- An opening tag's answer, and what it is without what it says of the name.
+use Rattle.std.proofs.Common.{◌≡◌, ℕ, Bool, true, false, not, refl, sym, ap, arith, Continue, Result}
+use Rattle.std.specs.Result.{result_from_control_flow}
+use Rattle.lex.specs.Answer.{number, refused, flag}
+use Rattle.lex.specs.declared.refusal.Refusal.{Refusal}
 use Rattle.reader.specs.declared.Tagged.{Tagged}
-use Rattle.reader.specs.declared.Tagged.TheVariants as T
-use Rattle.reader.specs.Contract.{plain}
+use Rattle.reader.specs.Contract.{Got, No, plain, tag_refused, tagged_in}
 
--- A tag's answer, without what it says of the name.
-pub plain_got : {r : Tagged} {z m e k g y x : ℕ} → r ≡ T.Got z m e k g → y ≡ z → x ≡ m → A.Got y x ≡ plain r
-unfolding plain
-plain_got h f i = rw (f, i) (sym (ap plain h))
+-- A refusal, as a tag's answer, is one of some number, at some places;
+pub tag_refused_is : (e : Refusal)
+    → tag_refused e ≡ No (number e.reason) e.first.start e.first.end e.second.start e.second.end
+unfolding tag_refused
+tag_refused_is e = refl
 
--- So is its refusal.
-pub plain_refuses : {r : Tagged} {n a b c d n₁ a₁ b₁ c₁ d₁ : ℕ} → r ≡ T.No n a b c d → n₁ ≡ n → a₁ ≡ a → b₁ ≡ b → c₁ ≡ c
-    → d₁ ≡ d
-    → A.No n₁ a₁ b₁ c₁ d₁ ≡ plain r
-unfolding plain
-plain_refuses h e₁ e₂ e₃ e₄ e₅ = rw (e₁, e₂, e₃, e₄, e₅) (sym (ap plain h))
+-- and it is that refusal.
+pub plain_refused : (e : Refusal) → plain (tag_refused e) ≡ refused e
+unfolding plain tag_refused refused
+plain_refused e = refl
 
--- A reader's answer, as a tag's.
-pub tagged_got : {r : Ans} {z m y x : ℕ} (e k g : ℕ) → r ≡ A.Got z m → y ≡ z → x ≡ m → plain (T.Got y x e k g) ≡ r
-unfolding plain
-tagged_got e k g h f i = rw (f, i) (sym h)
+pub refused_plain : (e : Refusal) → refused e ≡ plain (tag_refused e)
+refused_plain e = sym (plain_refused e)
 
--- So is its refusal.
-pub tagged_refuses : {r : Ans} {n a b c d n₁ a₁ b₁ c₁ d₁ : ℕ} → r ≡ A.No n a b c d → n₁ ≡ n → a₁ ≡ a → b₁ ≡ b → c₁ ≡ c
-    → d₁ ≡ d
-    → plain (T.No n₁ a₁ b₁ c₁ d₁) ≡ r
-unfolding plain
-tagged_refuses h e₁ e₂ e₃ e₄ e₅ = rw (e₁, e₂, e₃, e₄, e₅) (sym h)
+-- Behind `?`: what was read is known.
+pub tag_ok : {x : Result Tagged Refusal} {b : _} {v : Tagged}
+    → x ≡ result_from_control_flow b
+    → b ≡ Continue v
+    → tagged_in x ≡ Got v.end v.records v.name_end v.name_records (flag v.goes_on)
+tag_ok h k = rw (h, k) refl
 
-pub ruleset plain_steps = (rules, plain_got, plain_refuses, tagged_got, tagged_refuses)
+-- A tag that stops, and one that goes on, by the test of the code.
+pub tag_stops : (g : Bool) → not g ≡ true → flag g ≡ 0
+tag_stops true h = let z : ◌≡◌ {A = ℕ} 0 1 = ap flag h in absurd (omega (arith, z))
+tag_stops false h = refl
+
+pub tag_goes : (g : Bool) → not g ≡ false → flag g ≡ 0 → ⊥
+tag_goes true h e = omega (arith, e)
+tag_goes false h e = let z : ◌≡◌ {A = ℕ} 1 0 = ap flag h in omega (arith, z)

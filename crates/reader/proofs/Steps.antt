@@ -18,8 +18,7 @@ use Rattle.rules.proofs.Forests.{behind_nil}
 use Rattle.rules.proofs.Run.{goes, wide_got}
 use Rattle.rules.proofs.Again.{seq_no, wrap_got}
 use Rattle.lex.specs.Contract.{view, out_of, nothing, Leaf}
-use Rattle.lex.specs.declared.Ans.{Ans}
-use Rattle.lex.specs.declared.Ans.TheVariants.{Got, No}
+use Rattle.lex.specs.Answer.{Ans, Got, No}
 use Rattle.lex.proofs.Bare.{bare, flat_got, count_flat}
 use Rattle.table.specs.Slot.{Seat, seat_inside, seat_behind}
 use Rattle.table.specs.Contract.{Start, Words, Stored}

@@ -29,8 +29,8 @@ use Rattle.jsx.specs.Element.{children, paired_or_not, fragment_in, named_in}
 use Rattle.jsx.specs.Depth.{within}
 use Rattle.jsx.proofs.Fits.{element_name_few}
 use Rattle.lex.specs.Contract.{view, out_of, Leaf, Past}
-use Rattle.lex.specs.declared.Ans.{Ans}
-use Rattle.lex.specs.declared.Ans.TheVariants as A
+use Rattle.lex.specs.Answer.{Ans}
+use Rattle.lex.specs.Answer as A
 use Rattle.lex.proofs.Laws as Lex
 use Rattle.lex.proofs.Bare.{bare, Flat, flat_got, count_flat}
 use Rattle.table.specs.Slot.{Seat, seat_inside, seat_behind, rows_from}
@@ -47,10 +47,8 @@ use Rattle.closing.specs.Close.{name_from, name_count, closing, closing_named}
 use Rattle.tag.proofs.Rules.{goes_element_name, bare_end}
 use Rattle.closing.proofs.Verdict.{closed_by, opening_name, no_name_lem, paired_named, paired_plain}
 use Rattle.row.specs.Shut.{Shut}
-use Rattle.reader.specs.declared.Tagged.{Tagged}
-use Rattle.reader.specs.declared.Tagged.TheVariants.{Got, No}
 use Rattle.reader.specs.Cut.{in_tag}
-use Rattle.reader.specs.Contract.{plain, TagMade, Content}
+use Rattle.reader.specs.Contract.{TagAns, Got, No, plain, TagMade, Content}
 use Rattle.token.proofs.Rules as K
 use Rattle.reader.proofs.Rules as R
 use Rattle.reader.proofs.Steps.{made_began}
@@ -60,7 +58,7 @@ use Rattle.reader.proofs.Paired.{Opens, rows_behind, rows_front, paired_no, pair
 -- ---- the inside of an opening tag
 
 -- A refusal says nothing of a name.
-plain_no : {X : Type 0} {r : Tagged} {y : Ans} {n a b c d : ℕ} → plain r ≡ y → y ≡ A.No n a b c d → {z m e k g : ℕ}
+plain_no : {X : Type 0} {r : TagAns} {y : Ans} {n a b c d : ℕ} → plain r ≡ y → y ≡ A.No n a b c d → {z m e k g : ℕ}
     → r ≡ Got z m e k g
     → X
 unfolding plain
@@ -70,7 +68,7 @@ plain_no {r = r} {y} {n} {a} {b} {c} {d} e f {z} {m} h =
     absurd (omega arith)
 
 -- It refuses.
-tag_no : {r : Tagged} {y : Ans} {s : List ℕ} {n : Inner} {at : ℕ} {q : Seat} {t t' : List ℕ} {x a b c d : ℕ}
+tag_no : {r : TagAns} {y : Ans} {s : List ℕ} {n : Inner} {at : ℕ} {q : Seat} {t t' : List ℕ} {x a b c d : ℕ}
     → read_at s (in_tag n) at ≡ trouble x a b c d
     → y ≡ A.No x a b c d
     → plain r ≡ y
@@ -104,7 +102,7 @@ module _ {s : List ℕ} {a : ℕ} {c : ℕ} {q : Seat} (room : Room c s a q) {r 
 module _ (d : ℕ) {s : List ℕ} {a : ℕ} {q : Seat} {r : Ans} {t t₁ : List ℕ}
     (l : Made r s element_name a 1 q 0 t t₁) where
   -- The name refuses.
-  pub tag_refuses : {x : Tagged} {t' : List ℕ} {n i b g y : ℕ} → r ≡ A.No n i b g y → plain x ≡ r
+  pub tag_refuses : {x : TagAns} {t' : List ℕ} {n i b g y : ℕ} → r ≡ A.No n i b g y → plain x ≡ r
       → TagMade x s (within d) a q t t'
   unfolding in_tag
   tag_refuses h e = tag_no (seq_no s (suc (length s)) element_name 0 a (made_no l h) _) h e
@@ -121,7 +119,7 @@ module _ (d : ℕ) {s : List ℕ} {a : ℕ} {q : Seat} {r : Ans} {t t₁ : List 
       tag_named = reader_first tag_begun goes_element_name l h
 
       -- An attribute refuses.
-      pub tag_refuses_inside : {x : Tagged} {t' : List ℕ} {n i b g y : ℕ} → r₂ ≡ A.No n i b g y → plain x ≡ r₂
+      pub tag_refuses_inside : {x : TagAns} {t' : List ℕ} {n i b g y : ℕ} → r₂ ≡ A.No n i b g y → plain x ≡ r₂
           → TagMade x s (within d) a q t t'
       tag_refuses_inside h₂ f = tag_no (made_stops tag_named (made_lent t₁ st l₂ refl) h₂) h₂ f
 
@@ -131,7 +129,7 @@ module _ (d : ℕ) {s : List ℕ} {a : ℕ} {q : Seat} {r : Ans} {t t₁ : List 
         tag_full w = made_goes tag_named (made_lent t₁ st l₂ w) (R.goes_attributes d) eq (omega arith) h₂
 
         -- The tag does not end.
-        pub tag_refuses_behind : {x : Tagged} {t' : List ℕ} {n i b g y : ℕ} → r₃ ≡ A.No n i b g y → plain x ≡ r₃
+        pub tag_refuses_behind : {x : TagAns} {t' : List ℕ} {n i b g y : ℕ} → r₃ ≡ A.No n i b g y → plain x ≡ r₃
             → TagMade x s (within d) a q t t'
         tag_refuses_behind h₃ f = tag_no (last_leaf_stops (tag_full refl) l₃ h₃) h₃ f
 
@@ -326,7 +324,7 @@ tag_rows s d at a pa q t {z = z} {m} eQ x all w st =
 module _ (d : ℕ) {s : List ℕ} {at a : ℕ} (pa : Past a s pass at 1) (q : Seat) (t : List ℕ) {i : ℕ}
     (st : Start (length t) (2 * row_words) i) {q₁ : Seat} (eq : q₁ ≡ seat_inside q) {q₂ : Seat}
     (eq₂ : q₂ ≡ seat_inside q₁)
-    {r : Tagged} {u : List ℕ} (l : TagMade r s (within d) a q₂ (mid_of i (length t - i) t) u) where
+    {r : TagAns} {u : List ℕ} (l : TagMade r s (within d) a q₂ (mid_of i (length t - i) t) u) where
   -- The tag refuses.
   pub named_refuses : {y : Ans} {t' : List ℕ} {n b c e f : ℕ} → r ≡ No n b c e f → y ≡ plain r
       → Made y s (named_in d (within d)) at 1 q 0 t t'

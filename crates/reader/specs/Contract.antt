@@ -1,5 +1,5 @@
 -- What the contracts of the cycle say besides those of every reader.
-use Rattle.std.specs.Prelude.{ℕ, ◌+◌, ◌*◌, ◌≤◌, ◌<◌, ◌^◌, ◌≡◌, true, false, List}
+use Rattle.std.specs.Prelude.{ℕ, ◌+◌, ◌*◌, ◌≤◌, ◌<◌, ◌^◌, ◌≡◌, true, false, List, Result, Ok, Err}
 use Rattle.rules.specs.Forest.{nil}
 use Rattle.rules.specs.Parse.{got, read_at}
 use Rattle.rules.specs.Record.{row_words}
@@ -7,26 +7,40 @@ use Rattle.jsx.specs.Kind as Kind
 use Rattle.jsx.specs.Expression.{Inner}
 use Rattle.jsx.specs.Element.{child, children}
 use Rattle.lex.specs.Contract.{out_of}
-use Rattle.lex.specs.declared.Ans.{Ans}
-use Rattle.lex.specs.declared.Ans.TheVariants as A
+use Rattle.lex.specs.Answer.{Ans}
+use Rattle.lex.specs.Answer as A
 use Rattle.table.specs.Slot.{Seat, seat_inside, seat_behind}
 use Rattle.table.specs.Reader.{Room, Made}
 use Rattle.same.specs.Contract.{Named}
 use Rattle.closing.specs.declared.Opened.{Opened}
 use Rattle.closing.specs.Close.{name_count, closing_named}
 use Rattle.row.specs.Shut.{Shut}
+use Rattle.lex.specs.declared.refusal.Refusal.{Refusal}
 use Rattle.reader.specs.declared.Tagged.{Tagged}
-use Rattle.reader.specs.declared.Tagged.TheVariants.{Got, No}
 use Rattle.reader.specs.Cut.{in_tag}
 
--- An opening tag's answer without what it says of the name and the content.
-unfoldable pub plain : Tagged → Ans
+-- An opening tag's answer: its end, the records in it, its name's end and the name's records, and 1 where a content
+-- follows, else 0; or a refusal.
+pub data TagAns : Type 0 where
+  Got : ℕ → ℕ → ℕ → ℕ → ℕ → TagAns
+  No : ℕ → ℕ → ℕ → ℕ → ℕ → TagAns
+
+-- The same without what it says of the name and the content.
+unfoldable pub plain : TagAns → Ans
 plain (Got z m e k g) = A.Got z m
 plain (No n a b c d) = A.No n a b c d
 
+-- How the code says it.
+unfoldable pub tag_refused : Refusal → TagAns
+tag_refused e = No (A.number e.reason) e.first.start e.first.end e.second.start e.second.end
+
+abbrev pub tagged_in : Result Tagged Refusal → TagAns
+tagged_in (Ok x) = Got x.end x.records x.name_end x.name_records (A.flag x.goes_on)
+tagged_in (Err e) = tag_refused e
+
 -- The inside of an opening tag was read from its name on, at a. Where it was got, its name ends at e and has k records,
 -- and g is 0 where the tag stops, with no content.
-pub record TagMade (r : Tagged) (s : List ℕ) (n : Inner) (a : ℕ) (q : Seat) (t t' : List ℕ) : Type 0 where
+pub record TagMade (r : TagAns) (s : List ℕ) (n : Inner) (a : ℕ) (q : Seat) (t t' : List ℕ) : Type 0 where
   pub made : Made (plain r) s (in_tag n) a 2 q 0 t t'
   pub name : (z m e k g : ℕ) → r ≡ Got z m e k g → Named s a e × (k ≡ name_count s a)
   pub stops : (z m e k g : ℕ) → r ≡ Got z m e k g → g ≡ 0

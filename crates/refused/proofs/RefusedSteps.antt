@@ -13,7 +13,7 @@ use Rattle.jsx.specs.Byte.{need}
 use Rattle.jsx.specs.Name.{same}
 use Rattle.jsx.specs.Word.{word, among, refused_word, primary_word}
 use Rattle.lex.specs.Contract.{nothing, Leaf, Past, bytes_from}
-use Rattle.lex.specs.declared.Ans.TheVariants.{Got, No}
+use Rattle.lex.specs.Answer.{Got, No}
 use Rattle.lex.proofs.Bare.{bare, direct_got}
 use Rattle.lex.proofs.Laws.{leaf_stop, leaf_done}
 use Rattle.refused.specs.WordList.{cells, good}

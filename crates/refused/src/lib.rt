@@ -5,11 +5,11 @@ ghost use Rattle.std.specs.Prelude.{◌≡◌, true, ◌+◌, ◌-◌, ◌≤◌
 ghost use Rattle.rules.specs.Parse.{byte_at};
 ghost use Rattle.jsx.specs.Name.{opens_name};
 ghost use Rattle.jsx.specs.Word.{refused_word, primary_word};
+ghost use Rattle.lex.specs.Answer.{said};
 ghost use Rattle.lex.specs.Contract.{Leaf, nothing, bytes_from};
 ghost use Rattle.refused.specs.WordList.{good};
 
-use lex::Ans;
-use lex::refusal::UNEXPECTED;
+use lex::refusal::{Reason, Refusal};
 
 // Whether the n bytes from a on in s are a refused word, by a good list of those of n bytes, with a space behind each.
 fn is_listed(words: &[u8], count: usize, s: &[u8], a: usize, n: usize) -> bool
@@ -17,13 +17,11 @@ fn is_listed(words: &[u8], count: usize, s: &[u8], a: usize, n: usize) -> bool
     ensures { result ≡ refused_word (bytes_from s.now a n) }
 {
     let mut p = 0;
-    let mut i = 0;
-    while i < count {
+    for _i in 0..count {
         if lex::same_at(words, p, s, a, n) {
             return true;
         }
         p = p + n + 1;
-        i = i + 1;
     }
     false
 }
@@ -59,15 +57,15 @@ pub fn is_refused_word(s: &[u8], a: usize, b: usize) -> bool
     }
 }
 
-// A name as a primary, whose first byte was seen; the number is 0. A refused word is 3 at its start.
-pub fn primary_word(s: &[u8], at: usize) -> Ans
+// Past a name as a primary, whose first byte was seen. A refused word is 3 at its start.
+pub fn primary_word(s: &[u8], at: usize) -> Result<usize, Refusal>
     requires { (at ≤ length s.now) × (opens_name (byte_at s.now at) ≡ true) }
-    ensures { Leaf nothing result s.now primary_word at 1 }
+    ensures { Leaf nothing (said result) s.now primary_word at 1 }
 {
     let p = word::skip_word(s, at);
     if is_refused_word(s, at, p) {
-        Ans::No(UNEXPECTED, at, at, 0, 0)
+        Err(Reason::Unexpected.at(at))
     } else {
-        Ans::Got(p, 0)
+        Ok(p)
     }
 }

@@ -1,10 +1,15 @@
-// Room that the programs lend: an input of any allowed length, and a table.
+// What the programs lend: room for an input of any allowed length, a table, and the streams that they read and write.
 #![tactic(auto)]
 
 ghost use Rattle.std.specs.Prelude.{◌≡◌, ◌*◌, length};
 ghost use Rattle.rules.specs.Record.{row_words};
 
 use table::ROW_WORDS;
+
+// Standard input and output, as the system numbers them.
+pub const STDIN: i32 = 0;
+
+pub const STDOUT: i32 = 1;
 
 // 131,072 records.
 const TABLE_WORDS: usize = ROW_WORDS * 131_072;

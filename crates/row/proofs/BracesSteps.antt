@@ -8,7 +8,7 @@ use native.Mathlib.Omega.{arith}
 use lib.Dec.{lit<}
 use lib.ListN.{length}
 use lib.Seq.{sets}
-use borrow.Author.Rules.{rules}
+use Rattle.lex.proofs.Results.{results}
 use borrow.Author.Tests.{eq-eqb}
 use Rattle.rules.specs.Forest.{node, Forest, nil, byte, group, ◌⋈◌, width}
 use Rattle.rules.specs.Rule.{Rule, step, when, many, stop, node_of, ◌⨾◌}
@@ -23,7 +23,7 @@ use Rattle.jsx.specs.Blank.{blanks, pass}
 use Rattle.jsx.specs.Text.{in_text, text}
 use Rattle.jsx.specs.Braces.{empty_braces}
 use Rattle.lex.specs.Contract.{nothing, Past}
-use Rattle.lex.specs.declared.Ans.TheVariants.{Got}
+use Rattle.lex.specs.Answer.{Got}
 use Rattle.lex.proofs.Laws as Lex
 use Rattle.lex.proofs.Bare.{bare, bare_blanks, count_flat, flat_got}
 use Rattle.blank.proofs.Laws.{pass_is}
@@ -55,7 +55,7 @@ text_made {s} {at} v w f =
     let x = wrap_read s (suc (length s)) (λ o. node Kind.text 0) inside 0 at v.is in
     rw f (leaf_made (λ o. node Kind.text 0) 0 bare_inside x.1 refl far.1 (omega arith) w)
 
-pub ruleset text_steps = (rules, text_made)
+pub ruleset text_steps = (results, text_made)
 
 -- ---- empty braces
 
@@ -171,6 +171,6 @@ inside_shallow room g e =
     let deep = room.shallow in
     rw (e, g) (omega arith)
 
-pub ruleset empty_steps = (rules, empty_made)
+pub ruleset empty_steps = (results, empty_made)
 
-pub ruleset empty_asked = (rules, inside_fits, inside_held, inside_shallow)
+pub ruleset empty_asked = (results, inside_fits, inside_held, inside_shallow)

@@ -3,7 +3,7 @@ use mathlib.Core.Path.{◌≡◌}
 use mathlib.Core.List.{List}
 use Prim.Native.Nat.{ℕ}
 use native.Mathlib.Omega.{arith}
-use borrow.Author.Rules.{rules}
+use Rattle.lex.proofs.Results.{results}
 use Rattle.table.specs.Slot.{Seat, seat_inside}
 use Rattle.table.specs.Contract.{Enterable, Words, Stored}
 
@@ -30,4 +30,4 @@ pub opening_stored : (j : Seat) {j₁ : Seat} {k kind at z extra m : ℕ} {t t' 
     → Stored k (seat_inside j) kind at z extra m t t'
 opening_stored j g w = rw g at w
 
-pub ruleset opening_steps = (rules, opening_enter, opening_words, opening_stored)
+pub ruleset opening_steps = (results, opening_enter, opening_words, opening_stored)

@@ -4,15 +4,14 @@ use mathlib.Core.List.{List}
 use Prim.Native.Nat.{ℕ, ◌+◌, ◌*◌, ◌-◌, ◌≤◌, ◌<◌, ◌^◌}
 use native.Mathlib.Omega.{arith}
 use lib.ListN.{length}
-use borrow.Author.Rules.{rules}
+use Rattle.lex.proofs.Results.{results}
 use borrow.Rule.Slice.PartMut.{put_mid, mid_of}
 use mir.Syntax.{w64}
 use mir.Val.{Fits}
 use Rattle.rules.specs.Parse.{Answer}
 use Rattle.rules.specs.Record.{row_words}
 use Rattle.lex.specs.Contract.{out_of}
-use Rattle.lex.specs.declared.Ans.{Ans}
-use Rattle.lex.specs.declared.Ans.TheVariants.{Got, No}
+use Rattle.lex.specs.Answer.{Ans, Got, No}
 use Rattle.lex.proofs.Laws as Lex
 use Rattle.table.specs.Slot.{Seat, seat_inside, seat_behind, rows_from}
 use Rattle.table.specs.Contract.{Enterable, Start, Words, Stored}
@@ -77,7 +76,7 @@ module _ {s : List ℕ} {c : ℕ} (v : ℕ) (j : Seat) (t : List ℕ) {k i : ℕ
             ((λ o. Got (ey o) (en o)), rw e at w) z' m' (sym h ∙ h');
       }
 
-pub ruleset shut_steps = (rules, shut_stops, shut_made)
+pub ruleset shut_steps = (results, shut_stops, shut_made)
 
 -- ---- what the calls ask
 
@@ -133,4 +132,4 @@ module _ {s : List ℕ} {c : ℕ} (v : ℕ) (j : Seat) (room : Room 3 s c (seat_
           let far = l.far _ _ h in
           rw (g, e, f, o) (omega arith)
 
-pub ruleset shut_asked = (rules, opening_copy, shut_enter, behind_fits, shut_room, shut_fits, shut_words)
+pub ruleset shut_asked = (results, opening_copy, shut_enter, behind_fits, shut_room, shut_fits, shut_words)

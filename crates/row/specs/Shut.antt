@@ -2,8 +2,7 @@
 use Rattle.std.specs.Prelude.{ℕ, ◌+◌, ◌*◌, ◌≡◌, List}
 use Rattle.rules.specs.Parse.{Answer}
 use Rattle.rules.specs.Record.{row_words}
-use Rattle.lex.specs.declared.Ans.{Ans}
-use Rattle.lex.specs.declared.Ans.TheVariants.{Got, No}
+use Rattle.lex.specs.Answer.{Ans, Got, No}
 use Rattle.table.specs.Slot.{Seat, seat_inside, seat_behind}
 use Rattle.table.specs.Contract.{Stored}
 use Rattle.table.specs.Reader.{MadeOf}

@@ -1,5 +1,5 @@
 -- The end of what was read before: what each need of `part_end` and `blanks_end` follows from.
-use mathlib.Core.Path.{◌≡◌, sym, ◌∙◌}
+use mathlib.Core.Path.{◌≡◌, refl, sym, ◌∙◌}
 use mathlib.Core.Bool.{true}
 use mathlib.Core.List.{List}
 use Prim.Native.Nat.{ℕ}
@@ -9,8 +9,11 @@ use Rattle.rules.proofs.Got.{trouble_got}
 use Rattle.jsx.specs.Blank.{blanks}
 use Rattle.jsx.specs.Name.{opens_part, part as name_part}
 use Rattle.lex.specs.Contract.{nothing, Leaf, Past}
-use Rattle.lex.specs.declared.Ans.{Ans}
-use Rattle.lex.specs.declared.Ans.TheVariants.{Got, No}
+use Rattle.lex.specs.Answer.{Ans, Got, said}
+use Rattle.lex.specs.declared.refusal.Refusal.{Refusal}
+use Rattle.lex.proofs.Results.{refused_is}
+use Rattle.std.specs.Prelude.{Result, Ok, Err}
+use Rattle.std.specs.Result.{IsOk}
 use Rattle.lex.proofs.Bare.{goes_blanks}
 use Rattle.lex.proofs.Laws as Lex
 use Rattle.word.proofs.Again.{part_opens}
@@ -21,16 +24,16 @@ pub part_opened : (s : List ℕ) (at : ℕ) → ReadsAt s name_part at → opens
 part_opened s at v = part_opens s at v.to v.read
 
 -- Blanks that were read can't be refused.
-pub blanks_again : {s : List ℕ} {at p n a b c d : ℕ} {r : Ans} → ReadsAt s blanks at → Leaf nothing r s blanks at 0
-    → r ≡ No n a b c d
-    → Past p s blanks at 0
-blanks_again v l e = trouble_got (sym (Lex.leaf_no l e) ∙ v.read)
+pub blanks_ok : {s : List ℕ} {at : ℕ} (r : Result ℕ Refusal) → ReadsAt s blanks at → Leaf nothing (said r) s blanks at 0
+    → IsOk r
+blanks_ok (Ok p) v l = refl
+blanks_ok (Err e) v l = trouble_got (sym (Lex.leaf_no l (refused_is e)) ∙ v.read)
 
 -- They end where they ended.
 pub blanks_past : {s : List ℕ} {at p j y : ℕ} {r : Ans} → Leaf nothing r s blanks at 0 → r ≡ Got p j → y ≡ p
     → Past y s blanks at 0
 blanks_past l e f = rw f (record { is = Lex.leaf_got goes_blanks l e; far = l.far _ _ e })
 
-pub ruleset end_steps = (rules, blanks_again, blanks_past)
+pub ruleset end_steps = (rules, blanks_past)
 
 pub ruleset end_asked = (rules, part_opened)

@@ -8,8 +8,8 @@ ghost use Rattle.jsx.specs.Name.{same, element_name, part as name_part};
 ghost use Rattle.lex.specs.Contract.{out_of, bytes_from, Past};
 ghost use Rattle.same.specs.Contract.{ReadsAt, ReadTo, Named, same_names, behind_colon, behind_dot, same_parts};
 
-use lex::Ans;
 use lex::bytes::COLON;
+use lex::refusal::Refusal;
 
 // Whether the bytes from a to b and from c to e are the same.
 pub fn same_bytes(s: &[u8], a: usize, b: usize, c: usize, e: usize) -> bool
@@ -36,10 +36,7 @@ fn blanks_end(s: &[u8], at: usize) -> usize
     requires { ReadsAt s.now blanks at }
     ensures { Past result s.now blanks at 0 }
 {
-    let Ans::Got(p, _) = blank::skip_blanks(s, at) else {
-        return at; // never: it was read before
-    };
-    p
+    blank::skip_blanks(s, at).unwrap()
 }
 
 // Whether two namespaced names, from behind the colons, at p and q, to their ends b and d, have the same second part.

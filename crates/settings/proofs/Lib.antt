@@ -1,4 +1,4 @@
--- What each need of the functions follows from.
+-- What each need of `settings` follows from.
 pub mod Steps
 -- One answer for every store.
 pub mod Tight

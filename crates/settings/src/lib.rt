@@ -1,15 +1,19 @@
 // A settings store, and the limits that it sets; limits that are given to a reading. Document 02, request 14.
 #![tactic(auto)]
 
-ghost use Rattle.std.specs.Prelude.{◌≡◌, ◌<◌, ◌^◌, length, drop};
+ghost use Rattle.std.specs.Prelude.{ℕ, ◌≡◌, ◌<◌, ◌^◌};
 ghost use Rattle.rules.specs.Parse.{byte_at};
 ghost use Rattle.jsx.specs.Reading.{standard as standard_limits};
-ghost use Rattle.jsx.specs.Settings.{settings as settings_of, held as held_behind, capped as capped_limits, least};
-ghost use Rattle.jsx.specs.Settings.{other_than, marks_other, size_of, is_cut, length_in, depth_set, length_set, judged};
-ghost use Rattle.settings.specs.Contract.{limits_of, settled_of};
+ghost use Rattle.jsx.specs.Settings.{settings as settings_of, held as held_behind, capped as capped_limits};
+ghost use Rattle.jsx.specs.Settings.{other_than, marks_other, size_of, is_cut, judged};
+ghost use Rattle.settings.specs.Contract.{settled_by, limits_of, settled_of, depth_if_good, length_if_good};
 
+use kind::Kind;
 use lex::bytes::END;
-use lex::refusal::{BAD_SETTING, CUT_SHORT, UNKNOWN_KIND, WRONG_MARK};
+use refusal::StoreRefusal;
+
+mod kind;
+pub mod refusal;
 
 // The most bytes of an input, and the most levels of depth.
 pub const MOST_BYTES: usize = 1_048_576;
@@ -24,29 +28,15 @@ const SECOND_MARK: u32 = b'T' as u32;
 // The bytes of a record in front of its content: the mark, the kind, the length.
 const HEAD_BYTES: usize = 4;
 
-const DEPTH_KIND: u32 = 1;
-
-const LENGTH_KIND: u32 = 2;
-
-// Unknown kinds from here on are skipped.
-const SKIPPED_FROM: u32 = 128;
-
 // The limits of a reading.
-#[derive(Clone, Copy)]
+#[derive(Clone, Copy, PartialEq, Eq)]
 pub struct Limits {
     pub depth: usize,
     pub bytes: usize,
 }
 
-// What a store is answered.
-#[derive(Clone, Copy)]
-pub enum Settled {
-    Set(Limits),
-    // A refusal's number and place, start and end. Document 01's limits hold then.
-    Refused(u32, usize, usize),
-}
-
 // Document 01's limits.
+#[tactic(auto, unfolding(jsx::specs::Reading::standard))]
 pub fn standard() -> Limits
     ensures { limits_of result ≡ standard_limits }
 {
@@ -56,23 +46,14 @@ pub fn standard() -> Limits
     }
 }
 
-// The smaller of two numbers.
-fn at_most(n: usize, most: usize) -> usize
-    ensures { result ≡ least n most }
-{
-    if n <= most {
-        return n;
-    }
-    most
-}
-
 // A limit above document 01's counts as document 01's.
+#[tactic(auto, unfolding(jsx::specs::Settings::capped))]
 pub fn capped(l: Limits) -> Limits
     ensures { limits_of result ≡ capped_limits (limits_of l) }
 {
     Limits {
-        depth: at_most(l.depth, MOST_DEPTH),
-        bytes: at_most(l.bytes, MOST_BYTES),
+        depth: l.depth.min(MOST_DEPTH),
+        bytes: l.bytes.min(MOST_BYTES),
     }
 }
 
@@ -81,137 +62,100 @@ fn is_other(s: &[u8], at: usize, b: u32) -> bool
     ensures { result ≡ other_than b (byte_at s.now at) }
 {
     let c = lex::byte(s, at);
-    if c == b {
-        return false;
-    }
-    c != END
+    c != b && c != END
 }
 
-// Whether a byte of the mark here is another one.
-fn marks_other(s: &[u8], at: usize) -> bool
-    requires { at < length s.now }
-    ensures { result ≡ marks_other (drop at s.now) }
+// Whether a byte of the mark of the first record is another one.
+#[tactic(auto, unfolding(jsx::specs::Settings::marks_other))]
+fn marks_other(s: &[u8]) -> bool
+    ensures { result ≡ marks_other s.now }
 {
-    if is_other(s, at, FIRST_MARK) {
-        return true;
-    }
-    is_other(s, at + 1, SECOND_MARK)
+    is_other(s, 0, FIRST_MARK) || is_other(s, 1, SECOND_MARK)
 }
 
-// The length that the record here announces.
-fn size(s: &[u8], at: usize) -> usize
-    requires { at < length s.now }
-    ensures { (result ≡ size_of (drop at s.now)) × (result < 2 ^ 32) }
+// The length that the first record announces.
+fn size(s: &[u8]) -> usize
+    ensures value { result ≡ size_of s.now }
+    ensures fits { result < 2 ^ 32 }
 {
-    lex::byte(s, at + 3) as usize
+    lex::byte(s, 3) as usize
 }
 
-// Whether the record here is not whole.
-fn is_cut(s: &[u8], at: usize) -> bool
-    requires { at < length s.now }
-    ensures { result ≡ is_cut (drop at s.now) }
+// Whether the first record is not whole.
+#[tactic(auto, unfolding(jsx::specs::Settings::is_cut))]
+fn is_cut(s: &[u8]) -> bool
+    ensures { result ≡ is_cut s.now }
 {
-    s.len() - at < HEAD_BYTES + size(s, at)
+    s.len() < HEAD_BYTES + size(s)
 }
 
-// The number in the four bytes of the record here, low byte first.
-fn length_in(s: &[u8], at: usize) -> usize
-    requires { at < length s.now }
-    ensures { result ≡ length_in (drop at s.now) }
+// The depth limit that the first record sets, if it is good: one byte, 1 to 64.
+#[tactic(auto, unfolding(jsx::specs::Settings::good_depth))]
+fn good_depth(s: &[u8]) -> Option<usize>
+    ensures { result ≡ depth_if_good s.now }
 {
-    let a = lex::byte(s, at + 4) as usize;
-    let b = lex::byte(s, at + 5) as usize;
-    let c = lex::byte(s, at + 6) as usize;
-    let d = lex::byte(s, at + 7) as usize;
-    a + 256 * b + 65_536 * c + 16_777_216 * d
+    let [_, _, _, 1, depth, ..] = s else {
+        return None;
+    };
+    let depth = usize::from(*depth);
+    (1..=MOST_DEPTH).contains(&depth).then_some(depth)
 }
 
-// The depth limit that the record here sets: one byte, 1 to 64.
-fn depth_set(s: &[u8], at: usize, l: Limits) -> Settled
-    requires { at < length s.now }
-    ensures { settled_of result ≡ depth_set at (limits_of l) (drop at s.now) }
+// The length limit that the first record sets, if it is good: four bytes, low byte first, at most 1,048,576.
+#[tactic(auto, unfolding(jsx::specs::Settings::good_length))]
+fn good_length(s: &[u8]) -> Option<usize>
+    ensures { result ≡ length_if_good s.now }
 {
-    if size(s, at) != 1 {
-        return Settled::Refused(BAD_SETTING, at, at);
-    }
-    let d = lex::byte(s, at + 4) as usize;
-    if d < 1 {
-        return Settled::Refused(BAD_SETTING, at, at);
-    }
-    if MOST_DEPTH < d {
-        return Settled::Refused(BAD_SETTING, at, at);
-    }
-    Settled::Set(Limits {
-        depth: d,
-        bytes: l.bytes,
-    })
+    let [_, _, _, 4, a, b, c, d, ..] = s else {
+        return None;
+    };
+    let bytes = u32::from_le_bytes([*a, *b, *c, *d]) as usize;
+    (bytes <= MOST_BYTES).then_some(bytes)
 }
 
-// The length limit that the record here sets: four bytes, at most 1,048,576.
-fn length_set(s: &[u8], at: usize, l: Limits) -> Settled
-    requires { at < length s.now }
-    ensures { settled_of result ≡ length_set at (limits_of l) (drop at s.now) }
+// What the first record of s, at the place `at` of the store, makes of the limits.
+#[tactic(auto, unfolding(jsx::specs::Settings::judged, jsx::specs::Settings::is_cut, jsx::specs::Settings::depth_set, jsx::specs::Settings::length_set))]
+fn judge(s: &[u8], at: usize, l: Limits) -> Result<Limits, StoreRefusal>
+    ensures { settled_of result ≡ judged at (limits_of l) s.now }
 {
-    if size(s, at) != 4 {
-        return Settled::Refused(BAD_SETTING, at, at);
+    if marks_other(s) {
+        return Err(StoreRefusal::WrongMark(at));
     }
-    let n = length_in(s, at);
-    if MOST_BYTES < n {
-        return Settled::Refused(BAD_SETTING, at, at);
+    if is_cut(s) {
+        return Err(StoreRefusal::CutShort(at));
     }
-    Settled::Set(Limits {
-        depth: l.depth,
-        bytes: n,
-    })
-}
-
-// What the record here makes of the limits.
-fn judge(s: &[u8], at: usize, l: Limits) -> Settled
-    requires { at < length s.now }
-    ensures { settled_of result ≡ judged at (limits_of l) (drop at s.now) }
-{
-    if marks_other(s, at) {
-        return Settled::Refused(WRONG_MARK, at, at);
+    let bad = StoreRefusal::BadSetting(at);
+    match Kind::try_from(s[2])? {
+        Kind::Depth => Ok(Limits {
+            depth: good_depth(s).ok_or(bad)?,
+            ..l
+        }),
+        Kind::Length => Ok(Limits {
+            bytes: good_length(s).ok_or(bad)?,
+            ..l
+        }),
+        Kind::Skipped => Ok(l),
     }
-    if is_cut(s, at) {
-        return Settled::Refused(CUT_SHORT, at, at);
-    }
-    let kind = lex::byte(s, at + 2);
-    if kind == DEPTH_KIND {
-        return depth_set(s, at, l);
-    }
-    if kind == LENGTH_KIND {
-        return length_set(s, at, l);
-    }
-    if kind < SKIPPED_FROM {
-        return Settled::Refused(UNKNOWN_KIND, kind as usize, 0);
-    }
-    Settled::Set(l)
 }
 
 // The limits that a store sets, or its refusal.
-pub fn settings(s: &[u8]) -> Settled
+pub fn settings(s: &[u8]) -> Result<Limits, StoreRefusal>
     ensures { settled_of result ≡ settings_of s.now }
 {
     let mut l = standard();
     let mut at = 0;
     while at < s.len() {
-        let r = judge(s, at, l);
-        let Settled::Set(k) = r else {
-            return r;
-        };
-        at = at + HEAD_BYTES + size(s, at);
-        l = k;
+        let rest = &s[at..];
+        l = judge(rest, at, l)?;
+        at += HEAD_BYTES + size(rest);
     }
-    Settled::Set(l)
+    Ok(l)
 }
 
-// The limits that hold behind a store: its own, or document 01's where it is refused.
-pub fn held(r: Settled) -> Limits
-    ensures { limits_of result ≡ held_behind (settled_of r) }
+// The limits that hold behind a store: its own, or document 01's where it is refused, whatever refuses it.
+#[tactic(auto, unfolding(jsx::specs::Settings::held))]
+pub fn held<E: Drop>(r: Result<Limits, E>) -> Limits
+    ensures { (n a b : ℕ) → limits_of result ≡ held_behind (settled_by n a b r) }
 {
-    match r {
-        Settled::Set(l) => l,
-        Settled::Refused(_, _, _) => standard(),
-    }
+    r.unwrap_or(standard())
 }

@@ -1,5 +1,5 @@
 -- Lines and columns, as a person counts them: lines end with LF, CR or both; a column is a character.
-use Rattle.std.specs.Prelude.{ℕ, zero, suc, ◌+◌, ◌≤◌, ◌<◌, ◌≡◌, Bool, true, false, List, length, eqb, ltb}
+use Rattle.std.specs.Prelude.{ℕ, zero, suc, ◌+◌, ◌≤◌, ◌<◌, ◌≡◌, Bool, true, false, List, length, eqb, ltb, ◌==◌, ◌||◌}
 use Prim.Native.Char.{code}
 use Rattle.rules.specs.Parse.{pick, byte_at}
 use Rattle.spot.specs.declared.Place.{Place}
@@ -24,6 +24,10 @@ spot_behind s i x =
 unfoldable pub spot_at : List ℕ → ℕ → Place
 spot_at s zero = record { line = 1; column = 1; start = 0 }
 spot_at s (suc i) = spot_behind s i (spot_at s i)
+
+-- A byte of a line's end.
+abbrev pub is_end : ℕ → Bool
+is_end b = (b == code "\n") || (b == code "\r")
 
 -- The line of p ends at r: no byte of a line's end stands from p to there, and one stands there, or the input ends.
 pub record LineEnd (r : ℕ) (s : List ℕ) (p : ℕ) : Type 0 where

@@ -6,7 +6,7 @@ use Prim.Native.Nat.{ℕ, ◌/◌, ◌≤◌, ◌<◌}
 use native.Mathlib.Omega.{arith}
 use lib.ListN.{length}
 use lib.Seq.{sets}
-use borrow.Author.Rules.{rules}
+use Rattle.lex.proofs.Results.{results}
 use borrow.Author.Tests.{le-leb, lt-leb}
 use Rattle.rules.specs.Forest.{Forest}
 use Rattle.rules.specs.Rule.{Rule}
@@ -21,14 +21,14 @@ use Rattle.jsx.proofs.Calls.{not_too_long}
 use Rattle.jsx.proofs.Accepted.{check_zero}
 use Rattle.jsx.proofs.Numbers.{Numbering, stage_numbers, run_numbers, refusal_number}
 use Rattle.lex.specs.Contract.{view, out_of}
-use Rattle.lex.specs.declared.Ans.{Ans}
-use Rattle.lex.specs.declared.Ans.TheVariants.{Got, No}
+use Rattle.lex.specs.Answer.{Ans, Got, No}
 use Rattle.table.specs.Slot.{rows_from}
 use Rattle.table.specs.Reader.{counted, Made}
 use Rattle.table.proofs.Laws.{sets_written}
-use Rattle.stage.specs.declared.Reply.{Reply}
-use Rattle.stage.specs.declared.Reply.TheVariants.{Accepted, Refused}
-use Rattle.stage.specs.Call.{outcome, Numbered, Checks, Reads, reply_of, whole, Sound}
+use Rattle.stage.specs.declared.Reading.{Reading}
+use Rattle.stage.specs.declared.Reading.TheVariants.{Stage, Run}
+use Rattle.stage.specs.Reply.{Reply, Accepted, Refused}
+use Rattle.stage.specs.Call.{outcome, Numbered, Checks, Reads, reply_of, rule_of, whole, Sound}
 
 -- ---- answers and outcomes
 
@@ -180,12 +180,17 @@ module _ {reading : ℕ → Rule} (nu : Numbering reading) {s : List ℕ} where
 
 -- ---- the calls
 
+-- Either reading gives its refusals numbers.
+pub numbers : (r : Reading) → Numbering (rule_of r)
+numbers Stage = stage_numbers
+numbers Run = run_numbers
+
 -- Where the first two tests are passed, the input is no longer than is allowed.
 pub sound_short : {r : Ans} {s u : List ℕ} {p m : ℕ} → Sound r s → r ≡ Got p m → u ≡ s → length u ≤ 1_048_576
 sound_short v h e = rw e (v.passed _ _ h).0
 
-pub ruleset check_steps = (rules, stage_numbers, run_numbers, check_stops, check_made)
+pub ruleset check_steps = (results, numbers, check_stops, check_made)
 
-pub ruleset read_steps = (rules, stage_numbers, run_numbers, read_stops, read_small, read_made)
+pub ruleset read_steps = (results, numbers, read_stops, read_small, read_made)
 
-pub ruleset call_asked = (rules, stage_numbers, run_numbers, sound_short, checked_short)
+pub ruleset call_asked = (results, numbers, sound_short, checked_short)

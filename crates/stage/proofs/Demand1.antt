@@ -15,8 +15,7 @@ use Rattle.jsx.specs.Refusal.{table_too_small}
 use Rattle.jsx.specs.Reading.{standard, answer, stage, run}
 use Rattle.jsx.specs.Table.{missing, accepted, refused, holds, written, checked, read_into, check, read}
 use Rattle.jsx.proofs.Numbers.{Numbering, stage_numbers, run_numbers, refusal_number}
-use Rattle.stage.specs.declared.Reply.{Reply}
-use Rattle.stage.specs.declared.Reply.TheVariants.{Accepted, Refused}
+use Rattle.stage.specs.Reply.{Reply, Accepted, Refused}
 use Rattle.stage.specs.Call.{Checks, Reads}
 use Rattle.stage.specs.Demand1.{EveryInputIsAnswered, ChecksRefuseByDefinition, TooSmall, ReadsRefuseByDefinition}
 use Rattle.stage.specs.Demand1.{RefusalsWriteNothing}

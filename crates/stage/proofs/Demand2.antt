@@ -21,8 +21,7 @@ use Rattle.jsx.specs.Compose.{ReadAs, rows_of}
 use Rattle.jsx.proofs.Case.{whole_language}
 use Rattle.jsx.proofs.Accepted.{check_zero, accepted_answer, accepted_check, accepted_read, read_accepted}
 use Rattle.jsx.proofs.Numbers.{Numbering, stage_numbers, run_numbers, refusal_number}
-use Rattle.stage.specs.declared.Reply.{Reply}
-use Rattle.stage.specs.declared.Reply.TheVariants.{Accepted, Refused}
+use Rattle.stage.specs.Reply.{Reply, Accepted, Refused}
 use Rattle.stage.specs.Call.{outcome, Numbered, Checks, Reads}
 use Rattle.stage.specs.Demand2.{AcceptsWhatIsRead, WritesWhatIsRead, Reader, Right, IsRefusal}
 use Rattle.stage.specs.Demand2.{NotRefusingEverything, NotOneTable, NotWritingNothing, first_child}

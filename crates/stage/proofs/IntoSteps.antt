@@ -7,7 +7,7 @@ use Prim.Native.Nat.{ℕ, suc, ◌≤◌, ◌<◌}
 use native.Mathlib.Omega.{arith}
 use lib.Dec.{lit<}
 use lib.ListN.{length}
-use borrow.Author.Rules.{rules}
+use Rattle.lex.proofs.Results.{results}
 use Rattle.rules.specs.Forest.{Forest}
 use Rattle.rules.specs.Rule.{Rule, done, refuse, when, here, ◌⨾◌, ◌⇒◌∣◌}
 use Rattle.rules.specs.Parse.{Answer, got, trouble, byte_at, parse, read_at}
@@ -22,8 +22,7 @@ use Rattle.jsx.specs.Depth.{within}
 use Rattle.jsx.specs.Reading.{stage, run}
 use Rattle.jsx.proofs.Goes.{within_goes}
 use Rattle.lex.specs.Contract.{nothing, Leaf}
-use Rattle.lex.specs.declared.Ans.{Ans}
-use Rattle.lex.specs.declared.Ans.TheVariants.{Got, No}
+use Rattle.lex.specs.Answer.{Ans, Got, No}
 use Rattle.lex.proofs.Laws as Lex
 use Rattle.lex.proofs.Bare.{goes_blanks, bare_blanks}
 use Rattle.table.specs.Slot.{Seat}
@@ -146,7 +145,7 @@ module _ {s : List ℕ} {t : List ℕ} (i : length s ≤ 1_048_576) {r : Ans} (l
           stage_more x₃ e₁ e₂ = rw (e₁, e₂) (ends_not last y₃ x₃)
 
 pub ruleset stage_steps = (
-  rules,
+  results,
   stage_blanks_stop,
   stage_unopened,
   stage_element_stops,
@@ -183,7 +182,7 @@ module _ {s : List ℕ} {t t₂ : List ℕ} (i : length s ≤ 1_048_576) {w : Se
     pub run_more : (b ≡ 256 → ⊥) → {p₁ p₂ : ℕ} → p₁ ≡ p → p₂ ≡ p → Made (No 3 p₁ p₂ 0 0) s (run 64) 0 0 whole 0 t t₂
     run_more x e₁ e₂ = rw (e₁, e₂) (ends_not run_last y x)
 
-pub ruleset run_steps = (rules, run_stops, run_ends, run_more)
+pub ruleset run_steps = (results, run_stops, run_ends, run_more)
 
 -- ---- what the calls ask
 

@@ -10,3 +10,5 @@ pub mod Tight
 pub mod Demand1
 -- Each statement of the page of demand 2.
 pub mod Demand2
+-- What a call's result says, by what it is.
+pub mod Replies

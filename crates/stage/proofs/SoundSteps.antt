@@ -1,38 +1,18 @@
--- The first two tests, and a reply made of an answer: what each need of their functions follows from.
+-- The first two tests: what each need of their functions follows from.
 use mathlib.Core.Path.{◌≡◌, sym, ap, subst, ◌∙◌}
 use mathlib.Core.List.{List}
 use Prim.Native.Nat.{ℕ, ◌≤◌, ◌<◌}
 use lib.ListN.{length}
-use borrow.Author.Rules.{rules}
+use Rattle.lex.proofs.Results.{results}
 use Rattle.rules.specs.Parse.{Answer, trouble, and_then, read_at, parse_all}
 use Rattle.jsx.specs.Utf8.{utf8}
 use Rattle.jsx.specs.Reading.{standard}
 use Rattle.jsx.specs.Compose.{IsGot, WellFormed}
 use Rattle.jsx.proofs.Calls.{too_long_lem, not_too_long}
 use Rattle.lex.specs.Contract.{nothing, Leaf}
-use Rattle.lex.specs.declared.Ans.{Ans}
-use Rattle.lex.specs.declared.Ans.TheVariants.{Got, No}
+use Rattle.lex.specs.Answer.{Ans, Got, No}
 use Rattle.lex.proofs.Laws as Lex
-use Rattle.stage.specs.declared.Reply.TheVariants.{Accepted, Refused}
-use Rattle.stage.specs.Call.{reply_of, Sound}
-
--- ---- a reply
-
--- What was got is accepted, with its count.
-pub reply_got : {r : Ans} {p m k : ℕ} → r ≡ Got p m → k ≡ m → Accepted k ≡ reply_of r
-reply_got h e = rw (e, h)
-
--- A refusal is handed up.
-pub reply_no : {r : Ans} {n a b c d n₁ a₁ b₁ c₁ d₁ : ℕ} → r ≡ No n a b c d
-    → n₁ ≡ n
-    → a₁ ≡ a
-    → b₁ ≡ b
-    → c₁ ≡ c
-    → d₁ ≡ d
-    → Refused n₁ a₁ b₁ c₁ d₁ ≡ reply_of r
-reply_no h en ea eb ec ed = rw (en, ea, eb, ec, ed, h)
-
-pub ruleset reply_steps = (rules, reply_got, reply_no)
+use Rattle.stage.specs.Call.{Sound}
 
 -- ---- the two tests
 
@@ -56,4 +36,4 @@ sound_utf8 s {r} h l = record {
       ∙ ap (λ (x : Answer). and_then x (λ a o p. parse_all (reading 64) s)) (Lex.leaf_no l e);
 }
 
-pub ruleset sound_steps = (rules, sound_long, sound_utf8)
+pub ruleset sound_steps = (results, sound_long, sound_utf8)

@@ -1,15 +1,19 @@
 -- Each promise allows one answer: specs/Tight.antt proved, statement by statement.
-use mathlib.Core.Path.{◌≡◌, sym, ap, ◌∙◌}
+use mathlib.Core.Path.{◌≡◌, refl, sym, ap, ◌∙◌}
+use Rattle.std.specs.Prelude.{Result, Ok, Err, eqb}
 use mathlib.Core.List.{List, []}
 use Prim.Native.Nat.{ℕ}
 use Rattle.rules.specs.Rule.{Rule}
-use Rattle.rules.specs.Parse.{Answer, got, trouble}
+use Rattle.rules.specs.Parse.{Answer, got, trouble, pick}
 use Rattle.jsx.specs.Reading.{stage, run}
 use Rattle.jsx.specs.Table.{Outcome, accepted, refused}
-use Rattle.stage.specs.declared.Reply.{Reply}
-use Rattle.stage.specs.declared.Reply.TheVariants.{Accepted, Refused}
-use Rattle.stage.specs.Call.{outcome, Numbered}
-use Rattle.stage.specs.Tight.{OneAnswerOfCheck, OneAnswerOfRead, OneAnswerOfBytes}
+use Rattle.lex.specs.Answer.{number, refused as refusal_of}
+use Rattle.lex.specs.declared.refusal.Reason.{Reason}
+use Rattle.lex.specs.declared.refusal.Reason.TheVariants as R
+use Rattle.lex.specs.declared.refusal.Refusal.{Refusal}
+use Rattle.stage.specs.Reply.{Reply, Accepted, Refused}
+use Rattle.stage.specs.Call.{outcome, replied, Numbered}
+use Rattle.stage.specs.Tight.{OneAnswerOfCheck, OneAnswerOfRead, OneResultOfReply, OneAnswerOfBytes}
 use Rattle.stage.proofs.CallSteps.{refused_same, not_both}
 
 -- Two replies, with tables behind them, that say the same are the same.
@@ -53,3 +57,67 @@ one_answer_read_run = one_read
 pub one_answer_bytes : OneAnswerOfBytes
 one_answer_bytes s p r r' found found' v w =
     (v.tells ∙ sym w.tells, v.bytes ∙ sym w.bytes, v.place ∙ sym w.place)
+
+-- ---- results
+
+-- No two refusals have one number, so a reply names the result.
+reason_of : ℕ → Reason
+reason_of n =
+    pick (eqb n (number R.TooLong)) R.TooLong
+    (pick (eqb n (number R.NotUtf8)) R.NotUtf8
+    (pick (eqb n (number R.Unexpected)) R.Unexpected
+    (pick (eqb n (number R.EndOfInput)) R.EndOfInput
+    (pick (eqb n (number R.QuotedNeverClosed)) R.QuotedNeverClosed
+    (pick (eqb n (number R.StrayInText)) R.StrayInText
+    (pick (eqb n (number R.NamesDiffer)) R.NamesDiffer
+    (pick (eqb n (number R.FragmentClosedByName)) R.FragmentClosedByName
+    (pick (eqb n (number R.ElementClosedByFragment)) R.ElementClosedByFragment
+    (pick (eqb n (number R.DashAfterDot)) R.DashAfterDot
+    (pick (eqb n (number R.EmptyValue)) R.EmptyValue
+    (pick (eqb n (number R.Adjacent)) R.Adjacent
+    (pick (eqb n (number R.AfterStage)) R.AfterStage
+    (pick (eqb n (number R.TooDeep)) R.TooDeep
+    (pick (eqb n (number R.TableTooSmall)) R.TableTooSmall
+    (pick (eqb n (number R.CommaInBraces)) R.CommaInBraces
+    (pick (eqb n (number R.CommentNeverClosed)) R.CommentNeverClosed
+    R.StringNeverClosed))))))))))))))))
+
+reason_is : (x : Reason) → reason_of (number x) ≡ x
+unfolding reason_of
+reason_is R.TooLong = refl
+reason_is R.NotUtf8 = refl
+reason_is R.Unexpected = refl
+reason_is R.EndOfInput = refl
+reason_is R.QuotedNeverClosed = refl
+reason_is R.StrayInText = refl
+reason_is R.NamesDiffer = refl
+reason_is R.FragmentClosedByName = refl
+reason_is R.ElementClosedByFragment = refl
+reason_is R.DashAfterDot = refl
+reason_is R.EmptyValue = refl
+reason_is R.Adjacent = refl
+reason_is R.AfterStage = refl
+reason_is R.TooDeep = refl
+reason_is R.TableTooSmall = refl
+reason_is R.CommaInBraces = refl
+reason_is R.CommentNeverClosed = refl
+reason_is R.StringNeverClosed = refl
+
+result_of : Reply → Result ℕ Refusal
+result_of (Accepted m) = Ok m
+result_of (Refused n a b c d) =
+    Err (record {
+      reason = reason_of n;
+      first = record { start = a; end = b };
+      second = record { start = c; end = d };
+    })
+
+result_is : (r : Result ℕ Refusal) → result_of (replied r) ≡ r
+unfolding result_of refusal_of
+result_is (Ok m) = refl
+result_is (Err e) =
+    ap (λ (x : Reason). Err (record { reason = x; first = e.first; second = e.second })) (reason_is e.reason)
+
+-- A result is known by what it says.
+pub one_result_of_reply : OneResultOfReply
+one_result_of_reply r r' e = sym (result_is r) ∙ ap result_of e ∙ result_is r'

@@ -1,15 +1,16 @@
 -- What the public calls promise.
-use Rattle.std.specs.Prelude.{ℕ, ◌≤◌, ◌≡◌, List, [], length}
+use Rattle.std.specs.Prelude.{ℕ, ◌≤◌, ◌≡◌, List, [], length, Result, Ok, Err}
 use Rattle.rules.specs.Rule.{Rule}
 use Rattle.rules.specs.Parse.{trouble}
-use Rattle.jsx.specs.Reading.{standard, answer}
+use Rattle.jsx.specs.Reading.{standard, answer, stage, run}
 use Rattle.jsx.specs.Table.{Outcome, missing, accepted, refused, check, read}
 use Rattle.jsx.specs.Compose.{WellFormed}
-use Rattle.lex.specs.declared.Ans.{Ans}
-use Rattle.lex.specs.declared.Ans.TheVariants.{Got, No}
+use Rattle.lex.specs.Answer.{Ans, Got, No, refused as refusal_of}
 use Rattle.table.specs.Slot.{Seat}
-use Rattle.stage.specs.declared.Reply.{Reply}
-use Rattle.stage.specs.declared.Reply.TheVariants.{Accepted, Refused}
+use Rattle.lex.specs.declared.refusal.Refusal as code
+use Rattle.stage.specs.declared.Reading.{Reading}
+use Rattle.stage.specs.declared.Reading.TheVariants.{Stage, Run}
+use Rattle.stage.specs.Reply.{Reply, Accepted, Refused}
 
 -- D: "a definition gives this paper's number and values for each of its cases": what a reply says, with the table t
 -- behind it.
@@ -33,12 +34,24 @@ pub record Reads (reading : ℕ → Rule) (s t : List ℕ) (r : Reply) (t' : Lis
   pub is : outcome r t' ≡ read standard reading s t
   pub numbered : Numbered r
 
--- ---- inside the calls
+-- ---- how the code says it
 
 -- A reader's answer as a reply.
 abbrev pub reply_of : Ans → Reply
 reply_of (Got p m) = Accepted m
 reply_of (No n a b c d) = Refused n a b c d
+
+-- What a call's result says.
+abbrev pub replied : Result ℕ code.Refusal → Reply
+replied (Ok m) = Accepted m
+replied (Err e) = reply_of (refusal_of e)
+
+-- The rule of a reading.
+abbrev pub rule_of : Reading → ℕ → Rule
+rule_of Stage = stage
+rule_of Run = run
+
+-- ---- inside the calls
 
 -- The front of the table, in no record.
 abbrev pub whole : Seat

@@ -6,8 +6,7 @@ use Rattle.rules.specs.Parse.{trouble}
 use Rattle.jsx.specs.Refusal.{table_too_small}
 use Rattle.jsx.specs.Reading.{standard, answer}
 use Rattle.jsx.specs.Table.{holds}
-use Rattle.stage.specs.declared.Reply.{Reply}
-use Rattle.stage.specs.declared.Reply.TheVariants.{Accepted, Refused}
+use Rattle.stage.specs.Reply.{Reply, Accepted, Refused}
 use Rattle.stage.specs.Call.{Checks, Reads}
 
 -- ---- Demand 1: "Any bytes get an answer. The public calls ask nothing of the caller (no `requires`),"

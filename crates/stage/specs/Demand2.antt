@@ -10,8 +10,7 @@ use Rattle.jsx.specs.Refusal.{table_too_small, names_differ}
 use Rattle.jsx.specs.Reading.{standard, stage}
 use Rattle.jsx.specs.Table.{holds, written, table_word}
 use Rattle.jsx.specs.Compose.{count_of, ReadAs, rows_of}
-use Rattle.stage.specs.declared.Reply.{Reply}
-use Rattle.stage.specs.declared.Reply.TheVariants.{Accepted, Refused}
+use Rattle.stage.specs.Reply.{Reply, Accepted, Refused}
 use Rattle.stage.specs.Call.{Checks, Reads}
 
 -- ---- Demand 2: "Acceptance and the node table are also PROVED equal to a definition"

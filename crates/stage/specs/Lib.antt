@@ -1,3 +1,5 @@
+-- What a call answers.
+pub mod Reply
 -- What the calls answer, and what they promise.
 pub mod Call
 -- Demand 1: any bytes get an answer.

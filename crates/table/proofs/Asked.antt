@@ -6,14 +6,14 @@ use mathlib.Core.List.{List}
 use Prim.Native.Nat.{ℕ, ◌+◌, ◌≤◌, ◌<◌, ◌^◌}
 use native.Mathlib.Omega.{arith}
 use lib.ListN.{length}
-use borrow.Author.Rules.{rules}
+use Rattle.lex.proofs.Results.{results}
 use mir.Syntax.{w64}
 use mir.Val.{Fits}
 use Rattle.rules.specs.Forest.{Forest}
 use Rattle.rules.specs.Rule.{Rule}
 use Rattle.lex.specs.Contract.{Leaf, Past}
-use Rattle.lex.specs.declared.Ans.{Ans}
-use Rattle.lex.specs.declared.Ans.TheVariants.{Got}
+use Rattle.lex.specs.Answer.{Ans}
+use Rattle.lex.specs.Answer.{Got}
 use Rattle.table.specs.Slot.{Seat, seat_inside}
 use Rattle.table.specs.Contract.{Enterable}
 use Rattle.table.specs.Reader.{Room, Made}
@@ -142,7 +142,7 @@ module _ {c : ℕ} {s : List ℕ} {at : ℕ} {q : Seat} (room : Room c s at q) w
       omega arith
 
 pub ruleset reader_asked = (
-  rules,
+  results,
   leaf_inside,
   leaf_past,
   leaf_room,

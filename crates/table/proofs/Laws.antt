@@ -5,8 +5,7 @@ use Prim.Native.Nat.{ℕ, suc, ◌+◌, ◌*◌, ◌-◌, ◌≤◌, ◌<◌, �
 use native.Mathlib.Nat.{zero-add, suc-add, add-suc}
 use native.Mathlib.Omega.{arith}
 use native.Mathlib.Decide.{dec_lt}
-use lib.ListN.{length, get_or, set, take, drop, take-append-drop, length-drop, drop_of_length-le}
-use lib.ListN.{get_or-eq_default}
+use lib.ListN.{length, set, take, drop, take-append-drop, length-drop, drop_of_length-le}
 use lib.Seq.{sets, sets-eq, set_comm, set_out, length-take-le, take_all, take-set-le}
 use borrow.Author.Rules.{rules}
 use borrow.Rule.Slice.PartMut.{put_mid, mid_of}
@@ -199,11 +198,3 @@ pub row_out : (t : List ℕ) {q : Seat} {kind a z x : ℕ} (m : ℕ)
 row_out t {q} {kind} {a} {z} {x} m w h = stored_none t 0 q kind a z x m h w.4
 
 pub ruleset writer_steps = (rules, word_stored, word_out, three_stored, row_out)
-
--- ---- one word
-
--- A word past the end is 0.
-pub no_word : (t : List ℕ) (k : ℕ) → length t ≤ k → 0 ≡ get_or t k 0
-no_word t k h = sym (get_or-eq_default t 0 h)
-
-pub ruleset word_steps = (rules, no_word)

@@ -13,8 +13,7 @@ use Rattle.rules.specs.Parse.{Answer, got, trouble, read_at}
 use Rattle.rules.specs.Record.{count}
 use Rattle.rules.proofs.Run.{goes}
 use Rattle.lex.specs.Contract.{view, out_of, Leaf}
-use Rattle.lex.specs.declared.Ans.{Ans}
-use Rattle.lex.specs.declared.Ans.TheVariants.{Got, No}
+use Rattle.lex.specs.Answer.{Ans, Got, No}
 use Rattle.lex.proofs.Laws as Lex
 use Rattle.table.specs.Slot.{Seat, rows_from}
 use Rattle.table.specs.Contract.{Start}

@@ -86,25 +86,27 @@ module _ (q : Slot) {k a z x : ℕ} (m : ℕ) (w : Words (seat q) k a z x m) whe
     after_word f g = let h = w.4 in let i = at_number in omega arith
 
     -- A row is stored word by word;
-    pub whole_stored : {d : ℕ} {q₂ : Slot} {t t' : List ℕ}
+    pub whole_stored : {d y : ℕ} {q₂ : Slot} {t t' : List ℕ}
+        → y ≡ k
         → d ≡ (seat q₂).depth
         → q₂ ≡ q
-        → t' ≡ set (set (set (set (set (set (set t 0 k) 1 a) 2 z) 3 q.parent) 4 (j + (1 + m))) 5 x) 6 d
+        → t' ≡ set (set (set (set (set (set (set t 0 y) 1 a) 2 z) 3 q.parent) 4 (j + (1 + m))) 5 x) 6 d
         → Stored 0 (seat q) k a z x m t t'
     unfolding seat
-    whole_stored {t = t} e₄ e₅ h =
+    whole_stored {t = t} e₁ e₄ e₅ h =
         let after = ap (λ (n : ℕ). n + (1 + m)) at_number in
         let deep = e₄ ∙ ap (λ (q : Slot). (seat q).depth) e₅ in
         record {
           is = h
-              ∙ (λ i. set (set (set (set (set (set (set t 0 k) 1 a) 2 z) 3 q.parent) 4 (after i)) 5 x) 6 (deep i));
+              ∙ (λ i. set (set (set (set (set (set (set t 0 (e₁ i)) 1 a) 2 z) 3 q.parent) 4 (after i)) 5 x) 6 (deep i));
           small = w.4;
         }
 
     -- or as three words, three and one, where it is not known whether they fit.
-    pub row_stored : {t t₁ t₂ t₃ : List ℕ} {par g y d v : ℕ} {q₂ : Slot}
-        → Put 0 (k ∷ a ∷ z ∷ []) t t₁
+    pub row_stored : {t t₁ t₂ t₃ : List ℕ} {kind par g y d v : ℕ} {q₂ : Slot}
+        → Put 0 (kind ∷ a ∷ z ∷ []) t t₁
         → Put 3 (par ∷ g ∷ y ∷ []) t₁ t₂
+        → kind ≡ k
         → par ≡ q.parent
         → g ≡ j + (1 + m)
         → y ≡ x
@@ -114,13 +116,15 @@ module _ (q : Slot) {k a z x : ℕ} (m : ℕ) (w : Words (seat q) k a z x m) whe
         → v ≡ d
         → Stored 0 (seat q) k a z x m t t₃
     unfolding seat
-    row_stored h₁ h₂ e₁ e₂ e₃ e₄ e₅ h₃ e₆ =
+    row_stored {t = t} h₁ h₂ e₀ e₁ e₂ e₃ e₄ e₅ h₃ e₆ =
         let after = e₂ ∙ ap (λ (n : ℕ). n + (1 + m)) at_number in
         let deep = e₆ ∙ e₄ ∙ ap (λ (q : Slot). (seat q).depth) e₅ in
         record {
           is = h₃.is
               ∙ (λ i. sets (h₂.is i) 6 (deep i ∷ []))
-              ∙ (λ i. sets (sets (h₁.is i) 3 (e₁ i ∷ after i ∷ e₃ i ∷ [])) 6 ((seat q).depth ∷ []));
+              ∙ (λ i. sets (sets (h₁.is i) 3 (e₁ i ∷ after i ∷ e₃ i ∷ [])) 6 ((seat q).depth ∷ []))
+              ∙ (λ i. sets (sets (sets t 0 (e₀ i ∷ a ∷ z ∷ [])) 3 (q.parent ∷ ((seat q).number + (1 + m)) ∷ x ∷ [])) 6
+              ((seat q).depth ∷ []));
           small = w.4;
         }
 

@@ -18,8 +18,7 @@ use Rattle.rules.proofs.Again.{seq_no, wrap_no, wrap_got, after_no, after_got}
 use Rattle.rules.proofs.Turns.{many_more, many_last, many_no}
 use Rattle.jsx.specs.Byte.{is, need, expect}
 use Rattle.lex.specs.Contract.{out_of, Leaf}
-use Rattle.lex.specs.declared.Ans.{Ans}
-use Rattle.lex.specs.declared.Ans.TheVariants.{Got, No}
+use Rattle.lex.specs.Answer.{Ans, Got, No}
 use Rattle.lex.proofs.Laws as Lex
 use Rattle.lex.proofs.Bare.{bare, flat_got, count_flat}
 use Rattle.table.specs.Slot.{Seat, seat_inside, seat_behind, rows_from}

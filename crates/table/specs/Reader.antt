@@ -6,8 +6,8 @@ use Rattle.rules.specs.Rule.{Rule}
 use Rattle.rules.specs.Parse.{Answer, read_at}
 use Rattle.rules.specs.Record.{count}
 use Rattle.lex.specs.Contract.{view, out_of}
-use Rattle.lex.specs.declared.Ans.{Ans}
-use Rattle.lex.specs.declared.Ans.TheVariants.{Got}
+use Rattle.lex.specs.Answer.{Ans}
+use Rattle.lex.specs.Answer.{Got}
 use Rattle.table.specs.Slot.{Seat, rows_from}
 
 -- Where a reader may stand: the input keeps document 01's length, there are at most two records yet for each byte, and

@@ -4,8 +4,11 @@
 
 ghost use Rattle.std.specs.Prelude.{◌≡◌, [], ◌∷◌, ◌+◌, ◌≤◌, ◌<◌, ◌^◌, length, get_or};
 ghost use Rattle.rules.specs.Record.{row_words};
+ghost use Rattle.lex.specs.Kind.{kind_number};
 ghost use Rattle.table.specs.Slot.{seat, seat_inside, seat_behind};
 ghost use Rattle.table.specs.Contract.{Start, Enterable, Words, Put, Stored};
+
+use lex::kind::Kind;
 
 // The words of a row.
 pub const ROW_WORDS: usize = 7;
@@ -14,19 +17,19 @@ pub const ROW_WORDS: usize = 7;
 pub const MISSING: usize = 4_294_967_295;
 
 // The places of a row's words.
-const KIND: usize = 0;
+pub const KIND: usize = 0;
 
-const START: usize = 1;
+pub const START: usize = 1;
 
-const END: usize = 2;
+pub const END: usize = 2;
 
-const PARENT: usize = 3;
+pub const PARENT: usize = 3;
 
-const AFTER: usize = 4;
+pub const AFTER: usize = 4;
 
-const EXTRA: usize = 5;
+pub const EXTRA: usize = 5;
 
-const DEPTH: usize = 6;
+pub const DEPTH: usize = 6;
 
 // One level deeper, in the word that a number and a depth share.
 const LEVEL: usize = 4_294_967_296;
@@ -78,9 +81,9 @@ impl Slot {
 }
 
 // What a node says of itself: its kind, its span, its extra word, and how many records are below it.
-#[derive(Drop)]
+#[derive(Clone, Copy)]
 pub struct Node {
-    pub kind: usize,
+    pub kind: Kind,
     pub start: usize,
     pub end: usize,
     pub extra: usize,
@@ -91,10 +94,10 @@ pub struct Node {
 pub fn start(l: usize, k: usize) -> usize
     ensures { Start l k result }
 {
-    if k < l { k } else { l }
+    k.min(l)
 }
 
-// A word, where it fits.
+// A word, where it fits. (No `get_mut`: its contract says nothing of what the slice ends as, and `Put` does.)
 pub fn put_word(t: &mut [u32], k: usize, w: usize)
     requires { w < 2 ^ 32 }
     ensures { Put k (w ∷ []) t.old t.new }
@@ -116,12 +119,12 @@ fn put_three(t: &mut [u32], k: usize, a: usize, b: usize, c: usize)
 
 // A node's row at the front of a part that has room for it.
 fn put_whole(t: &mut [u32], slot: Slot, w: Node)
-    requires { Words (seat slot) w.kind w.start w.end w.extra w.below × (row_words ≤ length t.old) }
-    ensures { Stored 0 (seat slot) w.kind w.start w.end w.extra w.below t.old t.new }
+    requires { Words (seat slot) (kind_number w.kind) w.start w.end w.extra w.below × (row_words ≤ length t.old) }
+    ensures { Stored 0 (seat slot) (kind_number w.kind) w.start w.end w.extra w.below t.old t.new }
 {
     let number = slot.number();
     let depth = slot.depth();
-    t[KIND] = w.kind as u32;
+    t[KIND] = w.kind.number();
     t[START] = w.start as u32;
     t[END] = w.end as u32;
     t[PARENT] = slot.parent as u32;
@@ -132,10 +135,10 @@ fn put_whole(t: &mut [u32], slot: Slot, w: Node)
 
 // A node's row at the front of any part, each word where it fits.
 fn put_cut(t: &mut [u32], slot: Slot, w: Node)
-    requires { Words (seat slot) w.kind w.start w.end w.extra w.below }
-    ensures { Stored 0 (seat slot) w.kind w.start w.end w.extra w.below t.old t.new }
+    requires { Words (seat slot) (kind_number w.kind) w.start w.end w.extra w.below }
+    ensures { Stored 0 (seat slot) (kind_number w.kind) w.start w.end w.extra w.below t.old t.new }
 {
-    put_three(t, KIND, w.kind, w.start, w.end);
+    put_three(t, KIND, w.kind.number() as usize, w.start, w.end);
     put_three(
         t,
         PARENT,
@@ -149,8 +152,8 @@ fn put_cut(t: &mut [u32], slot: Slot, w: Node)
 // A node's row at the front of the part. A check lends no word of a table, a read room for the row: so there is one test, or
 // two.
 pub fn put_node(t: &mut [u32], slot: Slot, w: Node)
-    requires { Words (seat slot) w.kind w.start w.end w.extra w.below }
-    ensures { Stored 0 (seat slot) w.kind w.start w.end w.extra w.below t.old t.new }
+    requires { Words (seat slot) (kind_number w.kind) w.start w.end w.extra w.below }
+    ensures { Stored 0 (seat slot) (kind_number w.kind) w.start w.end w.extra w.below t.old t.new }
 {
     if t.len() == 0 {
         return;
@@ -164,8 +167,8 @@ pub fn put_node(t: &mut [u32], slot: Slot, w: Node)
 
 // A node's row at the word k: its writer is lent only the part from there on.
 pub fn put_node_at(t: &mut [u32], k: usize, slot: Slot, w: Node)
-    requires { Words (seat slot) w.kind w.start w.end w.extra w.below }
-    ensures { Stored k (seat slot) w.kind w.start w.end w.extra w.below t.old t.new }
+    requires { Words (seat slot) (kind_number w.kind) w.start w.end w.extra w.below }
+    ensures { Stored k (seat slot) (kind_number w.kind) w.start w.end w.extra w.below t.old t.new }
 {
     let i = start(t.len(), k);
     put_node(&mut t[i..], slot, w);
@@ -175,5 +178,5 @@ pub fn put_node_at(t: &mut [u32], k: usize, slot: Slot, w: Node)
 pub fn table_word(t: &[u32], k: usize) -> u32
     ensures { result ≡ get_or t.now k 0 }
 {
-    if k < t.len() { t[k] } else { 0 }
+    t.get(k).copied().unwrap_or(0)
 }

@@ -4,14 +4,13 @@ use mathlib.Core.List.{List}
 use Prim.Native.Nat.{ℕ, suc, ◌≤◌}
 use native.Mathlib.Omega.{arith}
 use lib.ListN.{length}
-use borrow.Author.Rules.{rules}
+use Rattle.lex.proofs.Results.{results}
 use Rattle.rules.specs.Forest.{node}
 use Rattle.rules.proofs.Got.{wrap_read}
 use Rattle.jsx.specs.Kind as Kind
 use Rattle.jsx.specs.Text.{quoted}
 use Rattle.lex.specs.Contract.{nothing, Leaf}
-use Rattle.lex.specs.declared.Ans.{Ans}
-use Rattle.lex.specs.declared.Ans.TheVariants.{Got, No}
+use Rattle.lex.specs.Answer.{Ans, Got, No}
 use Rattle.lex.proofs.Laws as Lex
 use Rattle.table.specs.Slot.{Seat}
 use Rattle.table.specs.Contract.{Words, Stored}
@@ -54,6 +53,6 @@ quoted_words room i l h f g k =
     let far = l.far _ _ h in
     rw (f, g, k) (omega arith)
 
-pub ruleset quoted_steps = (rules, quoted_stops, quoted_made)
+pub ruleset quoted_steps = (results, quoted_stops, quoted_made)
 
 pub ruleset quoted_asked = (reader_asked, quoted_words)

@@ -8,7 +8,7 @@ use Prim.Native.Nat.{ℕ, suc, ◌+◌, ◌*◌, ◌≤◌, ◌<◌, ◌^◌}
 use native.Mathlib.Omega.{arith}
 use lib.Dec.{lit<}
 use lib.ListN.{length}
-use borrow.Author.Rules.{rules}
+use Rattle.lex.proofs.Results.{results}
 use borrow.Author.Tests.{eq-eqb}
 use mir.Syntax.{w64}
 use mir.Val.{Fits}
@@ -25,8 +25,7 @@ use Rattle.jsx.specs.Expression.{sibling, no_sibling}
 use Rattle.jsx.specs.Tag.{tag_end}
 use Rattle.jsx.proofs.Again.{no_sibling_once}
 use Rattle.lex.specs.Contract.{view, out_of, nothing, expect_byte, Leaf}
-use Rattle.lex.specs.declared.Ans.{Ans}
-use Rattle.lex.specs.declared.Ans.TheVariants.{Got, No}
+use Rattle.lex.specs.Answer.{Ans, Got, No}
 use Rattle.lex.proofs.Laws as Lex
 use Rattle.lex.proofs.Bare.{goes_blanks}
 use Rattle.table.proofs.Asked.{reader_asked}
@@ -81,7 +80,7 @@ module _ {s : List ℕ} {at : ℕ} (c : ℕ) {r : Ans} where
   unfolding close_by
   close_is l h l₂ = two_are l 1 goes_blanks h l₂ (omega arith)
 
-pub ruleset token_steps = (rules, open_stops, open_is, close_stops, close_is)
+pub ruleset token_steps = (results, open_stops, open_is, close_stops, close_is)
 
 -- ---- a tag's end
 
@@ -183,9 +182,9 @@ slash_inside s at u y h e f =
     let i = Lex.before_end s at (code "/") (sym y ∙ h) (lit< tt) in
     rw (e, f) (omega arith)
 
-pub ruleset end_steps = (rules, end_here, end_missing, end_stops, end_slash)
+pub ruleset end_steps = (results, end_here, end_missing, end_stops, end_slash)
 
-pub ruleset end_asked = (rules, slash_inside)
+pub ruleset end_asked = (results, slash_inside)
 
 -- ---- behind an element that is no child
 
@@ -283,7 +282,7 @@ sibling_stays {r} {s} n {at} l {p} h =
     by (trouble m a b c d) e g =
         trouble_got (sym (after_no s (suc (length s)) blanks 0 at e (is "<") _ _) ∙ g)
 
-pub ruleset sibling_steps = (rules, sibling_stops, sibling_none, sibling_less, sibling_equals, sibling_adjacent)
+pub ruleset sibling_steps = (results, sibling_stops, sibling_none, sibling_less, sibling_equals, sibling_adjacent)
 
 -- ---- what the calls ask
 

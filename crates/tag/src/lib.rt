@@ -8,101 +8,88 @@ ghost use Rattle.jsx.specs.Byte.{quote};
 ghost use Rattle.jsx.specs.Text.{quoted};
 ghost use Rattle.jsx.specs.Expression.{no_sibling};
 ghost use Rattle.jsx.specs.Tag.{tag_end};
+ghost use Rattle.lex.specs.Answer.{number, counted_in, said, told};
 ghost use Rattle.lex.specs.Contract.{Leaf, nothing};
 ghost use Rattle.table.specs.Slot.{seat};
 ghost use Rattle.table.specs.Reader.{Room, Made};
 ghost use Rattle.tag.specs.Token.{open_by, close_by, goes_on};
 
-use lex::Ans;
 use lex::bytes::{EQUALS, GREATER, LESS, SLASH};
-use lex::kind::QUOTED;
-use lex::refusal::ADJACENT;
+use lex::kind::Kind;
+use lex::refusal::{Reason, Refusal};
 use table::{Node, Slot};
 
-// This byte, and the blanks behind it; the number is 0.
-pub fn open_by(s: &[u8], at: usize, b: u32) -> Ans
+// Past this byte, and the blanks behind it.
+pub fn open_by(s: &[u8], at: usize, b: u32) -> Result<usize, Refusal>
     requires { (b < 256) × (at ≤ length s.now) }
-    ensures { Leaf nothing result s.now (open_by b) at 1 }
+    ensures { Leaf nothing (said result) s.now (open_by b) at 1 }
 {
-    let r = lex::expect(s, at, b);
-    let Ans::Got(p, _) = r else {
-        return r;
-    };
+    let p = lex::expect(s, at, b)?;
     blank::skip_blanks(s, p)
 }
 
-// Blanks, and this byte; the number is 0.
-pub fn close_by(s: &[u8], at: usize, b: u32) -> Ans
+// Past blanks, and this byte.
+pub fn close_by(s: &[u8], at: usize, b: u32) -> Result<usize, Refusal>
     requires { (b < 256) × (at ≤ length s.now) }
-    ensures { Leaf nothing result s.now (close_by b) at 1 }
+    ensures { Leaf nothing (said result) s.now (close_by b) at 1 }
 {
-    let r = blank::skip_blanks(s, at);
-    let Ans::Got(p, _) = r else {
-        return r;
-    };
+    let p = blank::skip_blanks(s, at)?;
     lex::expect(s, p, b)
 }
 
-// The end of an opening tag: `>`, and the number is 1, or `/` and `>`, and it is 0: no content follows.
-pub fn tag_end(s: &[u8], at: usize) -> Ans
+// The end of an opening tag: `>`, and true, or `/` and `>`, and false: no content follows.
+pub fn tag_end(s: &[u8], at: usize) -> Result<(usize, bool), Refusal>
     requires { at ≤ length s.now }
-    ensures { Leaf goes_on result s.now tag_end at 1 }
+    ensures { Leaf goes_on (told result) s.now tag_end at 1 }
 {
     let b = lex::byte(s, at);
     if b == GREATER {
-        return Ans::Got(at + 1, 1);
+        return Ok((at + 1, true));
     }
     if b != SLASH {
-        return lex::unexpected(s, at);
+        return Err(lex::unexpected(s, at));
     }
-    let r = close_by(s, at + 1, GREATER);
-    let Ans::Got(p, _) = r else {
-        return r;
-    };
-    Ans::Got(p, 0)
+    let p = close_by(s, at + 1, GREATER)?;
+    Ok((p, false))
 }
 
 // Behind an element that is no child: blanks, and a `<` is refused: with 12, or with n before `<` and `=`. Nothing is
-// passed; the number is 0.
-pub fn no_sibling(s: &[u8], at: usize, n: u32) -> Ans
+// passed.
+pub fn no_sibling(s: &[u8], at: usize, n: Reason) -> Result<usize, Refusal>
     requires { at ≤ length s.now }
-    ensures { Leaf nothing result s.now (no_sibling n) at 0 }
+    ensures { Leaf nothing (said result) s.now (no_sibling (number n)) at 0 }
 {
-    let r = blank::skip_blanks(s, at);
-    let Ans::Got(p, _) = r else {
-        return r;
-    };
+    let p = blank::skip_blanks(s, at)?;
     if lex::byte(s, p) != LESS {
-        return Ans::Got(at, 0);
+        return Ok(at);
     }
-    if lex::two_at(s, p, LESS, LESS) {
-        return Ans::No(n, p, p, 0, 0);
+    if lex::two_at(s, p, LESS, LESS) || lex::two_at(s, p, LESS, EQUALS) {
+        return Err(n.at(p));
     }
-    if lex::two_at(s, p, LESS, EQUALS) {
-        return Ans::No(n, p, p, 0, 0);
-    }
-    Ans::No(ADJACENT, p, p + 1, 0, 0)
+    Err(Reason::Adjacent.over(p, p + 1))
 }
 
 // A quoted attribute value, whose quote was seen, and its record.
-pub fn quoted_value(t: &mut [u32], s: &[u8], at: usize, slot: Slot) -> Ans
+pub fn quoted_value(
+    t: &mut [u32],
+    s: &[u8],
+    at: usize,
+    slot: Slot,
+) -> Result<(usize, usize), Refusal>
     requires { Room 3 s.now at (seat slot) × (quote (byte_at s.now at) ≡ true) }
-    ensures { Made result s.now quoted at 2 (seat slot) 0 t.old t.new }
+    ensures { Made (counted_in result) s.now quoted at 2 (seat slot) 0 t.old t.new }
 {
-    let r = text::read_jsx_string_literal(s, at);
-    let Ans::Got(e, _) = r else {
-        return r;
-    };
+    let e = text::read_jsx_string_literal(s, at)?;
     table::put_node(
         t,
         slot,
         Node {
-            kind: QUOTED,
+            kind: Kind::Quoted,
             start: at,
             end: e,
             extra: 0,
             below: 0,
         },
     );
-    Ans::Got(e, 1)
+    Ok((e, 1))
 }

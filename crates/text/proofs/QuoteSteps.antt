@@ -2,7 +2,7 @@
 use mathlib.Core.Path.{◌≡◌, refl, sym, ap, ◌∙◌}
 use mathlib.Core.Bool.{Bool, true, false}
 use mathlib.Core.List.{List}
-use Prim.Native.Nat.{ℕ, suc, ◌+◌, ◌-◌, ◌≤◌, ◌<◌}
+use Prim.Native.Nat.{ℕ, suc, ◌+◌, ◌≤◌, ◌<◌}
 use Prim.Native.Char.{code}
 use native.Mathlib.Omega.{arith}
 use mir.Syntax.{w8}
@@ -10,6 +10,7 @@ use mir.Val.{Fits}
 use lib.ListN.{length, get_or, get_or-eq_default}
 use lib.Dec.{eqb}
 use borrow.Author.Tests.{eq-eqb, ne_eqb, eqb-true, lt-ltb}
+use Rattle.lex.proofs.Results.{results_made}
 use Rattle.rules.specs.Forest.{node, Forest, nil, byte, group, ◌⋈◌}
 use Rattle.rules.specs.Rule.{Rule, stop, step, refuse, when, many, marked, here, mark, from_mark, ◌⨾◌, ◌⇒◌∣◌}
 use Rattle.rules.specs.Parse.{Answer, got, trouble, pick, and_then, byte_at, parse, parsed, read_at}
@@ -20,8 +21,8 @@ use Rattle.jsx.specs.Byte.{is, end, line_end, quote}
 use Rattle.jsx.specs.Text.{quoted, quoted_by, quoted_turn}
 use Rattle.jsx.specs.Word.{string, string_by, string_turn}
 use Rattle.lex.specs.Contract.{nothing, Leaf}
-use Rattle.lex.specs.declared.Ans.TheVariants.{Got, No}
-use Rattle.lex.proofs.Laws.{inside, test_inside, not_end, byte_is, byte_not, tested, step_is, leaf_stop, leaf_done}
+use Rattle.lex.specs.Answer.{Got, No}
+use Rattle.lex.proofs.Laws.{inside, test_inside, byte_is, byte_not, tested, step_is, leaf_stop, leaf_done}
 use Rattle.lex.proofs.Turns.{Turns, turns_begin, turns_more, turns_end, turns_no}
 use Rattle.lanes.specs.Lanes.{only}
 use Rattle.lanes.specs.First.{First}
@@ -108,13 +109,6 @@ module _ (s : List ℕ) (at : ℕ) (o : quote (byte_at s at) ≡ true) where
   pub quote_asked : at + 1 ≤ length s
   quote_asked = let i = quote_inside s at o in omega arith
 
-  -- It is a byte.
-  pub quote_byte : {q : ℕ} → ((k : ℕ) → Fits w8 (get_or s k 0)) → q ≡ byte_at s at → q < 256
-  quote_byte each e =
-      let f = (each at).fits in
-      let g = inside s at 0 256 (quote_inside s at o) in
-      omega arith
-
 -- Behind the quote.
 pub quote_begins : {n : ℕ} {t : Rule} {s : List ℕ} {at q : ℕ} → quote (byte_at s at) ≡ true → q ≡ byte_at s at
     → Quoted n t s at q (at + 1)
@@ -155,12 +149,22 @@ quoted_as : (s : List ℕ) (at : ℕ) {x : Answer} → read_at s (either quoted_
 unfolding parse quoted quoted_by quoted_turn
 quoted_as s at e = ap (λ (x : Answer). and_then x (λ a o p. got a (group (node Kind.quoted 0) o nil) p)) e
 
+-- A byte is not the end.
+no_end : (s : List ℕ) → ((k : ℕ) → Fits w8 (get_or s k 0)) → (i : ℕ) → i < length s → end (byte_at s i) ≡ false
+no_end s each i k =
+    let f = (each i).fits in
+    let x = inside s i 0 256 k in
+    ne_eqb (byte_at s i) 256 (λ z. omega arith)
+
 module _
-    (s : List ℕ) (at q : ℕ) (each : (k : ℕ) → Fits w8 (get_or s k 0)) {p : ℕ} (o : quote (byte_at s at) ≡ true)
-    (e : q ≡ byte_at s at) (l : First (only q) s (at + 1) p)
+    (s : List ℕ) (at : ℕ) (each : (k : ℕ) → Fits w8 (get_or s k 0)) {p : ℕ} (o : quote (byte_at s at) ≡ true)
+    (l : First (only (get_or s at 0)) s (at + 1) p)
   where
-    no_end : (i : ℕ) → i < length s → end (byte_at s i) ≡ false
-    no_end i k = let f = (each i).fits in let x = inside s i 0 256 k in ne_eqb (byte_at s i) 256 (λ z. omega arith)
+    abbrev q : ℕ
+    q = get_or s at 0
+
+    e : q ≡ byte_at s at
+    e = inside s at 0 256 (quote_inside s at o)
 
     -- Up to the same quote, or to the end.
     scanned : Quoted quoted_never_closed step s at q p
@@ -171,7 +175,8 @@ module _
         passes : (i : ℕ) → i < length s → only q (byte_at s i) ≡ false
             → parsed s (turn quoted_never_closed step (byte_at s at)) at i ≡ got true (byte (byte_at s i) nil) (i + 1)
         passes i k n =
-            turn_in s _ at i quoted_never_closed step (byte_at s at) (no_end i k) (sym (ap (eqb (byte_at s i)) e) ∙ n)
+            turn_in s _ at i quoted_never_closed step (byte_at s at) (no_end s each i k)
+            (sym (ap (eqb (byte_at s i)) e) ∙ n)
             ∙ step_is s _ at i k
 
     -- The input ends.
@@ -185,68 +190,60 @@ module _
     pub quoted_ends : p < length s → Leaf nothing (Got (p + 1) 0) s quoted at 2
     quoted_ends i =
         let k = l.clear.past in
-        let x = closes scanned (no_end p i) (sym (ap (eqb (byte_at s p)) e) ∙ l.met i) i in
+        let x = closes scanned (no_end s each p i) (sym (ap (eqb (byte_at s p)) e) ∙ l.met i) i in
         leaf_done nothing s quoted at 2 (p + 1) 0 (quoted_as s at x) refl (omega arith)
 
 -- ---- a string inside braces
 
-module _ {s : List ℕ} {at q p : ℕ} (v : Quoted string_never_closed in_string s at q p) {b : ℕ}
-    (y : b ≡ byte_at s p) where
+module _ {s : List ℕ} {at q p : ℕ} (v : Quoted string_never_closed in_string s at q p) where
   -- The input ends.
-  pub string_open : b ≡ 256 → Leaf nothing (No string_never_closed at at 0 0) s string at 2
+  pub string_open : length s ≤ p → Leaf nothing (No string_never_closed at at 0 0) s string at 2
   unfolding string string_by string_turn
-  string_open x =
+  string_open h =
+      let x = eq-eqb (byte_at s p) 256 (get_or-eq_default s 256 h) in
       leaf_stop nothing s string at 2 refl
-      (refuses v (turn_end s (suc (length s)) at p string_never_closed in_string (byte_at s at) (byte_is y x)))
+      (refuses v (turn_end s (suc (length s)) at p string_never_closed in_string (byte_at s at) x))
 
-  module _ (x : b ≡ 256 → ⊥) where
-    within : p < length s
-    within = not_end s p (λ e. x (y ∙ e)) v.turns.inside
-
-    -- A turn comes nearer to the end.
-    pub string_nearer : {p₁ : ℕ} → p₁ ≡ p + 1 → length s - p₁ < length s - p
-    string_nearer e = let i = within in omega arith
-
-    -- The same quote.
-    pub string_ends : b ≡ q → Leaf nothing (Got (p + 1) 0) s string at 2
-    unfolding string string_by string_turn
-    string_ends z =
-        let o = v.turns.past in
-        let i = within in
-        let e = closes v (byte_not y x) (eq-eqb _ _ (sym y ∙ z ∙ v.first)) i in
-        leaf_done nothing s string at 2 (p + 1) 0 e refl (omega arith)
-
-    module _ (z : b ≡ q → ⊥) where
-      other : parsed s (turn string_never_closed in_string (byte_at s at)) at p ≡ parsed s in_string at p
-      other =
-          turn_in s (suc (length s)) at p string_never_closed in_string (byte_at s at) (byte_not y x)
-          (ne_eqb _ _ (λ e. z (y ∙ e ∙ sym v.first)))
-
-      -- A backslash: there.
-      pub string_escaped : b ≡ code "\\" → Leaf nothing (No unexpected p p 0 0) s string at 2
+  module _
+      (i : p < length s) (each : (k : ℕ) → Fits w8 (get_or s k 0)) {b : ℕ} (y : b ≡ byte_at s p)
+    where
+      -- The same quote.
+      pub string_ends : b ≡ q → Leaf nothing (Got (p + 1) 0) s string at 2
       unfolding string string_by string_turn
-      string_escaped k =
-          leaf_stop nothing s string at 2 refl
-          (refuses v (other ∙ string_escape s (suc (length s)) at p (byte_is y k)))
+      string_ends z =
+          let o = v.turns.past in
+          let e = closes v (no_end s each p i) (eq-eqb _ _ (sym y ∙ z ∙ v.first)) i in
+          leaf_done nothing s string at 2 (p + 1) 0 e refl (omega arith)
 
-      module _ (l : b ≡ code "\\" → ⊥) {t : Bool} (w : t ≡ line_end b) where
-        -- A line end: from the quote to it.
-        pub string_broken : t ≡ true → Leaf nothing (No unexpected at p 0 0) s string at 2
+      module _ (z : b ≡ q → ⊥) where
+        other : parsed s (turn string_never_closed in_string (byte_at s at)) at p ≡ parsed s in_string at p
+        other =
+            turn_in s (suc (length s)) at p string_never_closed in_string (byte_at s at) (no_end s each p i)
+            (ne_eqb _ _ (λ e. z (y ∙ e ∙ sym v.first)))
+
+        -- A backslash: there.
+        pub string_escaped : b ≡ code "\\" → Leaf nothing (No unexpected p p 0 0) s string at 2
         unfolding string string_by string_turn
-        string_broken k =
+        string_escaped k =
             leaf_stop nothing s string at 2 refl
-            (refuses v (other ∙ string_break s (suc (length s)) at p (byte_not y l) (tested line_end y w k)))
+            (refuses v (other ∙ string_escape s (suc (length s)) at p (byte_is y k)))
 
-        -- Another byte.
-        pub string_goes_on : {p₁ q₁ : ℕ} → t ≡ false → p₁ ≡ p + 1 → q₁ ≡ q
-            → Quoted string_never_closed in_string s at q₁ p₁
-        string_goes_on k g f =
-            let i = within in
-            let e = other ∙ string_step s (suc (length s)) at p (byte_not y l) (tested line_end y w k) i in
-            rw (g, f)
-            record { opens = v.opens; first = v.first; turns = turns_more v.turns e (omega arith) (omega arith) }
+        module _ (l : b ≡ code "\\" → ⊥) {t : Bool} (w : t ≡ line_end b) where
+          -- A line end: from the quote to it.
+          pub string_broken : t ≡ true → Leaf nothing (No unexpected at p 0 0) s string at 2
+          unfolding string string_by string_turn
+          string_broken k =
+              leaf_stop nothing s string at 2 refl
+              (refuses v (other ∙ string_break s (suc (length s)) at p (byte_not y l) (tested line_end y w k)))
+
+          -- Another byte.
+          pub string_goes_on : t ≡ false → Quoted string_never_closed in_string s at q (p + 1)
+          string_goes_on k =
+              let e = other ∙ string_step s (suc (length s)) at p (byte_not y l) (tested line_end y w k) i in
+              record { opens = v.opens; first = v.first; turns = turns_more v.turns e (omega arith) (omega arith) }
 
 pub ruleset quote_steps = (
+  results_made,
   quote_begins,
   quoted_open,
   quoted_ends,

@@ -8,7 +8,7 @@ use Prim.Native.Nat.{ℕ, suc, ◌+◌, ◌≤◌, ◌<◌}
 use native.Mathlib.Omega.{arith}
 use lib.Dec.{lit<, eqb}
 use lib.ListN.{length}
-use borrow.Author.Rules.{rules}
+use Rattle.lex.proofs.Results.{results}
 use borrow.Author.Tests.{eq-eqb, ne_eqb}
 use types.Run.{OneOf}
 use Rattle.rules.specs.Forest.{Forest, nil, byte}
@@ -23,8 +23,7 @@ use Rattle.jsx.specs.Blank.{blanks, pass}
 use Rattle.jsx.specs.Word.{word}
 use Rattle.jsx.specs.Braces.{dots, close_container}
 use Rattle.lex.specs.Contract.{out_of, nothing, expect_byte, Leaf}
-use Rattle.lex.specs.declared.Ans.{Ans}
-use Rattle.lex.specs.declared.Ans.TheVariants.{Got, No}
+use Rattle.lex.specs.Answer.{Ans, Got, No}
 use Rattle.lex.proofs.Laws as Lex
 use Rattle.lex.proofs.Bare.{goes_blanks}
 use Rattle.blank.proofs.Laws.{two_inside}
@@ -105,7 +104,7 @@ module _ {s : List ℕ} {at : ℕ} {r : Ans} (l : Leaf nothing r s blanks at 0) 
         (looked l h y (is "." or is "[" or is "(") blanks stop (suffix_no b k) ∙ stops_at s at)
         refl (omega arith)
 
-pub ruleset suffix_steps = (rules, suffix_stops, suffix_is, suffix_none)
+pub ruleset suffix_steps = (results, suffix_stops, suffix_is, suffix_none)
 
 -- ---- a comma
 
@@ -151,7 +150,7 @@ module _ {s : List ℕ} {at : ℕ} {r : Ans} (l : Leaf nothing r s blanks at 0) 
           (comma_passed ∙ ap (behind (out_of (read_at s blanks at))) (Lex.leaf_got goes_pass l₂ h₂))
           refl (omega arith))
 
-pub ruleset comma_steps = (rules, comma_stops, comma_none, comma_then_stops, comma_is)
+pub ruleset comma_steps = (results, comma_stops, comma_none, comma_then_stops, comma_is)
 
 -- ---- an attribute's `=`
 
@@ -204,7 +203,7 @@ module _ {s : List ℕ} {at : ℕ} {r : Ans} (l : Leaf nothing r s blanks at 0) 
           (assign_passed ∙ ap (behind (out_of (read_at s blanks at))) (Lex.leaf_got goes_pass l₂ h₂))
           refl (omega arith))
 
-pub ruleset assign_steps = (rules, assign_stops, assign_none, assign_then_stops, assign_is)
+pub ruleset assign_steps = (results, assign_stops, assign_none, assign_then_stops, assign_is)
 
 -- ---- the blanks before an attribute
 
@@ -249,7 +248,7 @@ module _ {s : List ℕ} {at : ℕ} {r : Ans} (l : Leaf nothing r s blanks at 0) 
         (chosen l h y (is "/" or is ">") stop done (ends_no b k))
         refl (omega arith))
 
-pub ruleset attribute_steps = (rules, attribute_stops, attribute_none, attribute_is)
+pub ruleset attribute_steps = (results, attribute_stops, attribute_none, attribute_is)
 
 -- ---- a conditional's `:`
 
@@ -266,7 +265,7 @@ module _ {s : List ℕ} {at : ℕ} {r : Ans} (l : Leaf nothing r s (close_by (co
   pub colon_is : {r₂ : Ans} {p m : ℕ} → r ≡ Got p m → Leaf nothing r₂ s blanks p 0 → Leaf nothing r₂ s parted at 1
   colon_is h l₂ = leaf_as 1 (two_are l 1 (goes_close (code ":")) h l₂ (omega arith)) colon_of (omega arith)
 
-pub ruleset colon_steps = (rules, colon_stops, colon_is)
+pub ruleset colon_steps = (results, colon_stops, colon_is)
 
 -- ---- `.name`
 
@@ -283,7 +282,7 @@ module _ {s : List ℕ} {at : ℕ} {r : Ans} (l : Leaf nothing r s (open_by (cod
   pub dot_is : {r₂ : Ans} {p m : ℕ} → r ≡ Got p m → Leaf nothing r₂ s word p 1 → Leaf nothing r₂ s dot_word at 1
   dot_is h l₂ = leaf_as 1 (two_are l 1 (goes_open (code ".")) h l₂ (omega arith)) word_of (omega arith)
 
-pub ruleset dot_steps = (rules, dot_stops, dot_is)
+pub ruleset dot_steps = (results, dot_stops, dot_is)
 
 -- ---- `...`
 
@@ -352,7 +351,7 @@ module _ (s : List ℕ) (at : ℕ) {f : Bool} (o : f ≡ opens s three_dots at) 
         let none = not_three ∙ Lex.when_no s F 0 at (is ".") (refuse 3 here) need (Lex.byte_not y k) in
         Lex.leaf_refuses l (needed s at none) (Lex.need_fails s at)
 
-pub ruleset dots_steps = (rules, dots_are, dots_few, dots_none)
+pub ruleset dots_steps = (results, dots_are, dots_few, dots_none)
 
 -- ---- the end of `{expression}`
 
@@ -383,7 +382,7 @@ module _ {s : List ℕ} {at : ℕ} {r : Ans} (l : Leaf nothing r s blanks at 0) 
         (chosen l h y (is ",") (refuse comma_in_braces this_byte) (expect "}") (ne_eqb b (code ",") k))
         (omega arith)
 
-pub ruleset braces_steps = (rules, braces_stops, braces_comma, braces_end)
+pub ruleset braces_steps = (results, braces_stops, braces_comma, braces_end)
 
 -- ---- what the calls ask
 
@@ -407,6 +406,6 @@ pub three_inside : (s : List ℕ) (at a b c : ℕ) (u : List ℕ) {f : Bool} {z 
     → z ≤ length u
 three_inside s at a b c u o h i e g = let j = three_end s at a b c i (sym o ∙ h) in rw (e, g) (omega arith)
 
-pub ruleset between_asked = (rules, leaf_inside, leaf_next, byte_inside)
+pub ruleset between_asked = (results, leaf_inside, leaf_next, byte_inside)
 
-pub ruleset dots_asked = (rules, three_inside)
+pub ruleset dots_asked = (results, three_inside)

@@ -6,7 +6,7 @@ use Prim.Native.Char.{code}
 use Prim.Native.Nat.{ℕ, suc}
 use native.Mathlib.Omega.{arith}
 use lib.ListN.{length}
-use borrow.Author.Rules.{rules}
+use Rattle.lex.proofs.Results.{results}
 use Rattle.rules.specs.Rule.{Rule, refuse, when, when_char, mark}
 use Rattle.rules.specs.Parse.{trouble, behind, byte_at, code_at, parse, read_at}
 use Rattle.rules.proofs.Again.{again_marked}
@@ -16,8 +16,8 @@ use Rattle.jsx.specs.Blank.{pass}
 use Rattle.jsx.specs.Name.{opens_part}
 use Rattle.jsx.specs.Depth.{element_too_deep}
 use Rattle.lex.specs.Contract.{out_of, nothing, Leaf, Past}
-use Rattle.lex.specs.declared.Ans.{Ans}
-use Rattle.lex.specs.declared.Ans.TheVariants.{No}
+use Rattle.lex.specs.Answer.{Ans}
+use Rattle.lex.specs.Answer.{No}
 use Rattle.lex.proofs.Laws as Lex
 
 -- ---- an element with no level left
@@ -64,4 +64,4 @@ module _ {s : List ℕ} {at a b : ℕ} (v : Past a s pass at 1) (y : b ≡ byte_
         Lex.leaf_behind nothing element_too_deep at 1 (out_of (read_at s pass at)) (λ a o. refl) l
         (behind_pass ∙ ap (behind (out_of (read_at s pass at))) (named ∙ e)) (omega arith)
 
-pub ruleset deep_steps = (rules, deep_fragment, deep_named, deep_neither)
+pub ruleset deep_steps = (results, deep_fragment, deep_named, deep_neither)

@@ -7,7 +7,7 @@ use Prim.Native.Char.{code}
 use Prim.Native.Nat.{ℕ, suc, ◌+◌, ◌*◌, ◌≤◌, ◌<◌, ◌^◌}
 use native.Mathlib.Omega.{arith}
 use lib.ListN.{length}
-use borrow.Author.Rules.{rules}
+use Rattle.lex.proofs.Results.{results}
 use borrow.Author.Tests.{eq-eqb, ne_eqb, not-true, not-false}
 use mir.Syntax.{w64}
 use mir.Val.{Fits}
@@ -23,8 +23,7 @@ use Rattle.jsx.specs.Blank.{blanks}
 use Rattle.jsx.specs.Expression.{times, plus_minus, and_and, or_or}
 use Rattle.jsx.proofs.Again.{choice_behind}
 use Rattle.lex.specs.Contract.{out_of, nothing, Leaf}
-use Rattle.lex.specs.declared.Ans.{Ans}
-use Rattle.lex.specs.declared.Ans.TheVariants.{Got, No}
+use Rattle.lex.specs.Answer.{Ans, Got, No}
 use Rattle.lex.proofs.Laws as Lex
 use Rattle.lex.proofs.Bare.{goes_blanks}
 use Rattle.blank.proofs.Laws.{two_inside}
@@ -63,9 +62,9 @@ module _ (s : List ℕ) (at : ℕ) {b : ℕ} (y : byte_at s at ≡ b) (i : b < 2
         (starts_no s (b ∷ b ∷ []) F 0 at (refuse 3 here) step (sym o ∙ h) ∙ Lex.step_is s F 0 at k)
         refl (omega arith)
 
-pub ruleset once_steps = (rules, once_twice, once_is)
+pub ruleset once_steps = (results, once_twice, once_is)
 
-pub ruleset once_asked = (rules, once_inside, once_fits)
+pub ruleset once_asked = (results, once_inside, once_fits)
 
 -- ---- a byte that stands twice
 
@@ -91,7 +90,7 @@ module _ {s : List ℕ} {at b : ℕ} (i : b < 256) {f : Bool} (o : f ≡ opens s
       ∙ ap (got true (byte (byte_at s at) nil ⋈ byte (byte_at s (at + 1)) nil)) e)
       refl (omega arith)
 
-pub ruleset twice_steps = (rules, twice_not, twice_is)
+pub ruleset twice_steps = (results, twice_not, twice_is)
 
 -- ---- the operator here
 
@@ -193,9 +192,9 @@ pub double_small : {b c : ℕ} → OneOf doubles b → c ≡ b → c < 256
 double_small (inl h) e = omega arith
 double_small (inr h) e = omega arith
 
-pub ruleset here_steps = (rules, here_star, here_sum, here_double, here_none)
+pub ruleset here_steps = (results, here_star, here_sum, here_double, here_none)
 
-pub ruleset here_asked = (rules, sum_small, double_small)
+pub ruleset here_asked = (results, sum_small, double_small)
 
 -- ---- an operator with the blanks around it
 
@@ -318,6 +317,6 @@ module _ {s : List ℕ} {at : ℕ} {r : Ans} (l : Leaf nothing r s blanks at 0) 
             refl (omega arith))
 
 pub ruleset operator_steps =
-    (rules, operator_stops, operator_refused, operator_none, operator_then_stops, operator_is)
+    (results, operator_stops, operator_refused, operator_none, operator_then_stops, operator_is)
 
-pub ruleset operator_asked = (rules, leaf_inside)
+pub ruleset operator_asked = (results, leaf_inside)

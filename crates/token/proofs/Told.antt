@@ -8,8 +8,8 @@ use Rattle.rules.specs.Forest.{Forest, nil}
 use Rattle.rules.specs.Rule.{Rule, stop, starts}
 use Rattle.rules.specs.Parse.{got, pick, opens, parse, read_at}
 use Rattle.lex.specs.Contract.{view, out_of, Leaf}
-use Rattle.lex.specs.declared.Ans.{Ans}
-use Rattle.lex.specs.declared.Ans.TheVariants.{Got}
+use Rattle.lex.specs.Answer.{Ans}
+use Rattle.lex.specs.Answer.{Got}
 use Rattle.lex.proofs.Laws as Lex
 use Rattle.tag.specs.Token.{goes_on}
 

@@ -2,11 +2,12 @@
 use mathlib.Core.Path.{◌≡◌, refl, sym, ap, ◌∙◌}
 use mathlib.Core.Bool.{Bool, true, false}
 use mathlib.Core.List.{List, [], ◌∷◌}
+use Rattle.std.specs.Prelude.{Option, None, Some}
 use Prim.Native.Nat.{ℕ, ◌≤◌, ◌<◌}
 use native.Mathlib.Omega.{arith}
 use native.Mathlib.Decide.{dec_lt}
-use lib.Dec.{eqb}
-use borrow.Author.Tests.{eqb-true, ne_eqb}
+use lib.Dec.{eqb, ltb}
+use borrow.Author.Tests.{eqb-true, ne_eqb, ltb-true}
 use Rattle.rules.specs.Rule.{Test, Rule, stop, step, refuse, when, mark, ◌⨾◌}
 use Rattle.rules.specs.Parse.{pick, byte_at, parse}
 use Rattle.rules.proofs.Run.{both}
@@ -15,7 +16,7 @@ use Rattle.jsx.specs.Byte.{◌‥◌, ◌or◌}
 use Rattle.jsx.specs.Utf8.{second, other, sequence}
 use Rattle.utf8.specs.Lead.{leads, said_of, lead_of}
 use Rattle.utf8.specs.declared.Lead.{Lead}
-use Rattle.utf8.specs.declared.Lead.TheVariants.{Alone, Of, Bad}
+use Rattle.utf8.specs.declared.Lead.TheVariants.{Alone, Of}
 use Rattle.lex.proofs.Ranges.{in_range, under, over}
 
 -- ---- the arms
@@ -30,37 +31,37 @@ middle b l d u = go (dec_lt b 0xED)
 
 module _ {b : ℕ} where
   -- E0.
-  pub lead_e0 : b ≡ 0xE0 → Of 3 0xA0 0xBF ≡ lead_of b
+  pub lead_e0 : b ≡ 0xE0 → Some (Of 3 0xA0 0xBF) ≡ lead_of b
   unfolding lead_of said_of leads
   lead_e0 h = sym (rw h)
 
   -- ED.
-  pub lead_ed : b ≡ 0xED → Of 3 0x80 0x9F ≡ lead_of b
+  pub lead_ed : b ≡ 0xED → Some (Of 3 0x80 0x9F) ≡ lead_of b
   unfolding lead_of said_of leads
   lead_ed h = sym (rw h)
 
   -- F0.
-  pub lead_f0 : b ≡ 0xF0 → Of 4 0x90 0xBF ≡ lead_of b
+  pub lead_f0 : b ≡ 0xF0 → Some (Of 4 0x90 0xBF) ≡ lead_of b
   unfolding lead_of said_of leads
   lead_f0 h = sym (rw h)
 
   -- F4.
-  pub lead_f4 : b ≡ 0xF4 → Of 4 0x80 0x8F ≡ lead_of b
+  pub lead_f4 : b ≡ 0xF4 → Some (Of 4 0x80 0x8F) ≡ lead_of b
   unfolding lead_of said_of leads
   lead_f4 h = sym (rw h)
 
   -- 00-7F.
-  pub lead_alone : b < 0x80 → Alone ≡ lead_of b
+  pub lead_alone : b < 0x80 → Some Alone ≡ lead_of b
   unfolding lead_of said_of leads
   lead_alone u = sym (rw (in_range 0x00 0x7F b (omega arith) (omega arith)))
 
   -- C2-DF.
-  pub lead_two : 0xC2 ≤ b → b < 0xE0 → Of 2 0x80 0xBF ≡ lead_of b
+  pub lead_two : 0xC2 ≤ b → b < 0xE0 → Some (Of 2 0x80 0xBF) ≡ lead_of b
   unfolding lead_of said_of leads
   lead_two l u = sym (rw (over 0x00 0x7F b (omega arith), in_range 0xC2 0xDF b l (omega arith)))
 
   -- E1-EC and EE-EF.
-  pub lead_three : (b ≡ 0xE0 → ⊥) → (b ≡ 0xED → ⊥) → 0xE0 ≤ b → b < 0xF0 → Of 3 0x80 0xBF ≡ lead_of b
+  pub lead_three : (b ≡ 0xE0 → ⊥) → (b ≡ 0xED → ⊥) → 0xE0 ≤ b → b < 0xF0 → Some (Of 3 0x80 0xBF) ≡ lead_of b
   unfolding lead_of said_of leads
   lead_three k d l u =
       sym
@@ -72,7 +73,7 @@ module _ {b : ℕ} where
       ))
 
   -- F1-F3.
-  pub lead_four : (b ≡ 0xF0 → ⊥) → 0xF0 ≤ b → b < 0xF4 → Of 4 0x80 0xBF ≡ lead_of b
+  pub lead_four : (b ≡ 0xF0 → ⊥) → 0xF0 ≤ b → b < 0xF4 → Some (Of 4 0x80 0xBF) ≡ lead_of b
   unfolding lead_of said_of leads
   lead_four k l u =
       sym
@@ -88,7 +89,7 @@ module _ {b : ℕ} where
       ))
 
   -- 80-C1: no lead bytes.
-  pub lead_low : 0x80 ≤ b → b < 0xC2 → Bad ≡ lead_of b
+  pub lead_low : 0x80 ≤ b → b < 0xC2 → None ≡ lead_of b
   unfolding lead_of said_of leads
   lead_low l u =
       sym
@@ -105,7 +106,7 @@ module _ {b : ℕ} where
       ))
 
   -- F5-FF: no lead bytes.
-  pub lead_high : (b ≡ 0xF4 → ⊥) → 0xF4 ≤ b → Bad ≡ lead_of b
+  pub lead_high : (b ≡ 0xF4 → ⊥) → 0xF4 ≤ b → None ≡ lead_of b
   unfolding lead_of said_of leads
   lead_high k l =
       sym
@@ -142,15 +143,15 @@ behind_lead n lo hi =
     pick (eqb n 2) (second lo hi) (second lo hi ⨾ pick (eqb n 3) other (other ⨾ pick (eqb n 4) other stop))
 
 -- A sequence that begins so.
-abbrev pub begun : Lead → Rule
-begun Alone = step
-begun (Of n lo hi) = step ⨾ behind_lead n lo hi
-begun Bad = refuse not_utf8 mark
+abbrev pub begun : Option Lead → Rule
+begun (Some Alone) = step
+begun (Some (Of n lo hi)) = step ⨾ behind_lead n lo hi
+begun None = refuse not_utf8 mark
 
 -- The table as a rule.
 whens : List (Test × Lead) → Rule
-whens [] = begun Bad
-whens (l ∷ ls) = when l.0 (begun l.1) (whens ls)
+whens [] = begun None
+whens (l ∷ ls) = when l.0 (begun (Some l.1)) (whens ls)
 
 module _ (s : List ℕ) (F e at : ℕ) where
   said_reads : (ls : List (Test × Lead))
@@ -160,8 +161,8 @@ module _ (s : List ℕ) (F e at : ℕ) where
   said_reads (l ∷ ls) = go (l.0 (byte_at s at)) (said_reads ls)
     where
       go : (x : Bool) → parse s F (whens ls) e at ≡ parse s F (begun (said_of ls (byte_at s at))) e at
-          → pick x (parse s F (begun l.1) e at) (parse s F (whens ls) e at)
-          ≡ parse s F (begun (pick x l.1 (said_of ls (byte_at s at)))) e at
+          → pick x (parse s F (begun (Some l.1)) e at) (parse s F (whens ls) e at)
+          ≡ parse s F (begun (pick x (Some l.1) (said_of ls (byte_at s at)))) e at
       go true h = refl
       go false h = h
 
@@ -172,30 +173,39 @@ module _ (s : List ℕ) (F e at : ℕ) where
 
 -- ---- the lengths
 
--- Whether a length is 2, 3 or 4.
-short : Lead → Bool
-short Alone = true
-short (Of n lo hi) = pick (eqb n 2) true (pick (eqb n 3) true (eqb n 4))
-short Bad = true
+-- Whether a bound is a byte, and a length 2, 3 or 4.
+short : Option Lead → Bool
+short (Some Alone) = true
+short (Some (Of n lo hi)) = pick (ltb hi 256) (pick (eqb n 2) true (pick (eqb n 3) true (eqb n 4))) false
+short None = true
 
 all_short : List (Test × Lead) → Bool
 all_short [] = true
-all_short (l ∷ ls) = pick (short l.1) (all_short ls) false
+all_short (l ∷ ls) = pick (short (Some l.1)) (all_short ls) false
 
 said_short : (ls : List (Test × Lead)) (b : ℕ) → all_short ls ≡ true → short (said_of ls b) ≡ true
 unfolding said_of all_short short
 said_short [] b h = refl
 said_short (l ∷ ls) b h =
-    let g = both (short l.1) (all_short ls) h in
+    let g = both (short (Some l.1)) (all_short ls) h in
     go (l.0 b) g.0 (said_short ls b g.1)
   where
-    go : (x : Bool) → short l.1 ≡ true → short (said_of ls b) ≡ true → short (pick x l.1 (said_of ls b)) ≡ true
+    go : (x : Bool) → short (Some l.1) ≡ true → short (said_of ls b) ≡ true
+        → short (pick x (Some l.1) (said_of ls b)) ≡ true
     go true h k = h
     go false h k = k
 
--- A length that is neither 2 nor 3 is 4.
-pub lead_length : (b : ℕ) {n lo hi : ℕ} → lead_of b ≡ Of n lo hi → (n ≡ 2 → ⊥) → (n ≡ 3 → ⊥) → n ≡ 4
-unfolding lead_of leads all_short short
-lead_length b {n} {lo} {hi} e x y =
-    let h : short (Of n lo hi) ≡ true = sym (ap short e) ∙ said_short leads b refl in
-    eqb-true n 4 (sym (rw (ne_eqb n 2 x, ne_eqb n 3 y)) ∙ h)
+module _ (b : ℕ) {n lo hi : ℕ} (e : lead_of b ≡ Some (Of n lo hi)) where
+  parts : (ltb hi 256 ≡ true) × (pick (eqb n 2) true (pick (eqb n 3) true (eqb n 4)) ≡ true)
+  unfolding lead_of leads all_short short
+  parts =
+      both (ltb hi 256) (pick (eqb n 2) true (pick (eqb n 3) true (eqb n 4)))
+      (sym (ap short e) ∙ said_short leads b refl)
+
+  -- A bound is a byte.
+  pub lead_fits : hi < 256
+  lead_fits = ltb-true hi 256 parts.0
+
+  -- A length that is neither 2 nor 3 is 4.
+  pub lead_length : (n ≡ 2 → ⊥) → (n ≡ 3 → ⊥) → n ≡ 4
+  lead_length x y = eqb-true n 4 (sym (rw (ne_eqb n 2 x, ne_eqb n 3 y)) ∙ parts.1)

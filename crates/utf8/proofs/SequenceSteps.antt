@@ -1,12 +1,13 @@
 -- A sequence, byte by byte: what each answer of the code's `sequence` follows from.
 use mathlib.Core.Path.{◌≡◌, sym, ap, ◌∙◌}
-use mathlib.Core.Bool.{Bool, true, false, not}
+use mathlib.Core.Bool.{Bool, true, false}
 use mathlib.Core.List.{List}
+use Rattle.std.specs.Prelude.{Option, None, Some}
 use Prim.Native.Nat.{ℕ, suc, ◌+◌, ◌<◌}
 use native.Mathlib.Omega.{arith}
 use lib.ListN.{length}
 use lib.Dec.{eqb, lit<}
-use borrow.Author.Tests.{lt-ltb, eq-eqb, ne_eqb, not-true, not-false}
+use borrow.Author.Tests.{lt-ltb, eq-eqb, ne_eqb}
 use Rattle.rules.specs.Forest.{Forest, nil, byte, ◌⋈◌}
 use Rattle.rules.specs.Rule.{Rule, marked, ◌⨾◌}
 use Rattle.rules.specs.Parse.{got, trouble, pick, byte_at, parse, parsed, read_at}
@@ -14,11 +15,12 @@ use Rattle.jsx.specs.Refusal.{not_utf8}
 use Rattle.jsx.specs.Byte.{◌‥◌}
 use Rattle.jsx.specs.Utf8.{second, other, sequence}
 use Rattle.lex.proofs.Laws.{seq_no, known}
-use Rattle.utf8.specs.Lead.{lead_of, Ended}
+use Rattle.lex.specs.Contract.{Past}
+use Rattle.utf8.specs.Lead.{lead_of}
 use Rattle.utf8.specs.declared.Lead.{Lead}
-use Rattle.utf8.specs.declared.Lead.TheVariants.{Alone, Of, Bad}
+use Rattle.utf8.specs.declared.Lead.TheVariants.{Alone, Of}
 use Rattle.lex.proofs.Ranges.{range_inside}
-use Rattle.utf8.proofs.LeadSteps.{begun, lead_reads, lead_length}
+use Rattle.utf8.proofs.LeadSteps.{begun, lead_reads, lead_fits, lead_length}
 
 -- ---- a byte behind the lead byte
 
@@ -44,149 +46,149 @@ next p k = omega arith
 
 -- ---- where a sequence ends
 
-module _ {s : List ℕ} {p : ℕ} (i : p < length s) {q : ℕ} where
-  -- None begins; one of k + 1 bytes does.
-  ended_none : q ≡ p → read_at s (marked sequence) p ≡ trouble not_utf8 p p 0 0 → Ended q s p
-  ended_none y e = record { is = e ∙ sym (rw (eq-eqb q p y)); far = omega arith }
-
-  ended_at_lem : (k : ℕ) (o : Forest) → q ≡ p + (k + 1) → p + k < length s
-      → read_at s (marked sequence) p ≡ got true o (p + (k + 1)) → Ended q s p
-  ended_at_lem k o y j e = record {
-    is = known _ (e ∙ ap (got true o) (sym y)) ∙ sym (rw (ne_eqb q p (λ z. omega arith)));
-    far = omega arith;
-  }
+-- One of k + 1 bytes begins.
+ended_at_lem : {s : List ℕ} {p : ℕ} (k : ℕ) (o : Forest) → p + k < length s
+    → read_at s (marked sequence) p ≡ got true o (p + (k + 1)) → Past (p + (k + 1)) s (marked sequence) p 1
+ended_at_lem {s} {p} k o j e = record { is = known _ e; far = omega arith }
 
 -- ---- steps
 
-module _ (s : List ℕ) (p : ℕ) {b : ℕ} (i : p < length s) (y : byte_at s p ≡ b) {l : Lead} (f : l ≡ lead_of b) where
-  begins : {m : Lead} → l ≡ m → read_at s (marked sequence) p ≡ parsed s (begun m) p p
-  unfolding parse
-  begins g =
-      lead_reads s (suc (length s)) p p
-      ∙ ap (λ (m : Lead). parsed s (begun m) p p) (ap lead_of y ∙ sym f ∙ g)
+module _
+    (s : List ℕ) (p : ℕ) {b : ℕ} (i : p < length s) (y : byte_at s p ≡ b) {l : Option Lead} (f : l ≡ lead_of b)
+  where
+    begins : {m : Option Lead} → l ≡ m → read_at s (marked sequence) p ≡ parsed s (begun m) p p
+    unfolding parse
+    begins g =
+        lead_reads s (suc (length s)) p p
+        ∙ ap (λ (m : Option Lead). parsed s (begun m) p p) (ap lead_of y ∙ sym f ∙ g)
 
-  -- No lead byte.
-  pub lead_bad : {q : ℕ} → l ≡ Bad → q ≡ p → Ended q s p
-  unfolding parse
-  lead_bad g y₀ = ended_none i y₀ (begins g)
+    -- No lead byte.
+    pub lead_bad : l ≡ None → read_at s (marked sequence) p ≡ trouble not_utf8 p p 0 0
+    unfolding parse
+    lead_bad g = begins g
 
-  -- A byte alone.
-  pub lead_ascii : {q : ℕ} → l ≡ Alone → q ≡ p + 1 → Ended q s p
-  unfolding parse
-  lead_ascii g y₀ = ended_at_lem i 0 (byte (byte_at s p) nil) y₀ (omega arith) (begins g ∙ rw (lt-ltb p (length s) i))
+    -- A byte alone.
+    pub lead_ascii : {m : Lead} → l ≡ Some m → m ≡ Alone → Past (p + 1) s (marked sequence) p 1
+    unfolding parse
+    lead_ascii j v =
+        ended_at_lem 0 (byte (byte_at s p) nil) (omega arith) (begins (j ∙ ap Some v) ∙ rw (lt-ltb p (length s) i))
 
-  module _
-      {n lo hi : ℕ} (g : l ≡ Of n lo hi) (h : hi < 256) {t : Bool} (w : t ≡ (lo ‥ hi) (byte_at s (p + 1)))
-    where
-      -- The second byte is not in its range.
-      pub no_second : {q : ℕ} → not t ≡ true → q ≡ p → Ended q s p
-      unfolding parse
-      no_second x y₀ =
-          let F = suc (length s) in
-          let z = bad s F p (p + 1) lo hi (sym w ∙ not-true t x) in
-          ended_none i y₀
-          (begins g ∙ rw (lt-ltb p (length s) i, first_bad s F p (p + 1) (second lo hi) _ (eqb n 2) z))
+    module _
+        {m : Lead} {n lo hi : ℕ} (j : l ≡ Some m) (v : m ≡ Of n lo hi)
+        {t : Bool} (w : t ≡ (lo ‥ hi) (byte_at s (p + 1)))
+      where
+        g : l ≡ Some (Of n lo hi)
+        g = j ∙ ap Some v
 
-      module _ (x : not t ≡ false) where
-        here : (lo ‥ hi) (byte_at s (p + 1)) ≡ true
-        here = sym w ∙ not-false t x
+        h : hi < 256
+        h = lead_fits b (sym f ∙ g)
 
-        passes : parse s (suc (length s)) (second lo hi) p (p + 1) ≡ got true (byte (byte_at s (p + 1)) nil) (p + 1 + 1)
-        passes = good s _ p (p + 1) lo hi h here
+        -- The second byte is not in its range.
+        pub no_second : t ≡ false → read_at s (marked sequence) p ≡ trouble not_utf8 p p 0 0
+        unfolding parse
+        no_second x =
+            let F = suc (length s) in
+            let z = bad s F p (p + 1) lo hi (sym w ∙ x) in
+            begins g ∙ rw (lt-ltb p (length s) i, first_bad s F p (p + 1) (second lo hi) _ (eqb n 2) z)
 
-        -- Two bytes.
-        pub two : {q : ℕ} → n ≡ 2 → q ≡ p + 2 → Ended q s p
-        unfolding parse ◌⋈◌
-        two k y₀ =
-            ended_at_lem i 1 (byte (byte_at s p) (byte (byte_at s (p + 1)) nil)) y₀
-            (range_inside s (p + 1) lo hi h here)
-            (begins g ∙ rw (lt-ltb p (length s) i, eq-eqb n 2 k, passes, next p 1))
+        module _ (x : t ≡ true) where
+          here : (lo ‥ hi) (byte_at s (p + 1)) ≡ true
+          here = sym w ∙ x
 
-        module _ (k : n ≡ 2 → ⊥) {t₂ : Bool} (w₂ : t₂ ≡ (0x80 ‥ 0xBF) (byte_at s (p + 2))) where
-          -- The third byte is not in its range.
-          pub no_third : {q : ℕ} → not t₂ ≡ true → q ≡ p → Ended q s p
-          unfolding parse other
-          no_third x₂ y₀ =
-              let z = bad s (suc (length s)) p (p + 2) 0x80 0xBF (sym w₂ ∙ not-true t₂ x₂) in
-              ended_none i y₀
-              (begins g
-              ∙ rw (
-                lt-ltb p (length s) i,
-                ne_eqb n 2 k,
-                passes,
-                next p 1,
-                first_bad s (suc (length s)) p (p + 2) other _ (eqb n 3) z,
-              ))
+          passes : parse s (suc (length s)) (second lo hi) p (p + 1)
+              ≡ got true (byte (byte_at s (p + 1)) nil) (p + 1 + 1)
+          passes = good s _ p (p + 1) lo hi h here
 
-          module _ (x₂ : not t₂ ≡ false) where
-            here₂ : (0x80 ‥ 0xBF) (byte_at s (p + 2)) ≡ true
-            here₂ = sym w₂ ∙ not-false t₂ x₂
+          -- Two bytes.
+          pub two : n ≡ 2 → Past (p + 2) s (marked sequence) p 1
+          unfolding parse ◌⋈◌
+          two k =
+              ended_at_lem 1 (byte (byte_at s p) (byte (byte_at s (p + 1)) nil))
+              (range_inside s (p + 1) lo hi h here)
+              (begins g ∙ rw (lt-ltb p (length s) i, eq-eqb n 2 k, passes, next p 1))
 
-            passes₂ : parse s (suc (length s)) (second 0x80 0xBF) p (p + 2)
-                ≡ got true (byte (byte_at s (p + 2)) nil) (p + 2 + 1)
-            passes₂ = good s _ p (p + 2) 0x80 0xBF (lit< tt) here₂
-
-            -- Three bytes.
-            pub three : {q : ℕ} → n ≡ 3 → q ≡ p + 3 → Ended q s p
-            unfolding parse other ◌⋈◌
-            three k₂ y₀ =
-                ended_at_lem i 2 (byte (byte_at s p) (byte (byte_at s (p + 1)) (byte (byte_at s (p + 2)) nil))) y₀
-                (range_inside s (p + 2) 0x80 0xBF (lit< tt) here₂)
+          module _ (k : n ≡ 2 → ⊥) {t₂ : Bool} (w₂ : t₂ ≡ (0x80 ‥ 0xBF) (byte_at s (p + 2))) where
+            -- The third byte is not in its range.
+            pub no_third : t₂ ≡ false → read_at s (marked sequence) p ≡ trouble not_utf8 p p 0 0
+            unfolding parse other
+            no_third x₂ =
+                let z = bad s (suc (length s)) p (p + 2) 0x80 0xBF (sym w₂ ∙ x₂) in
                 (begins g
                 ∙ rw (
                   lt-ltb p (length s) i,
                   ne_eqb n 2 k,
                   passes,
                   next p 1,
-                  eq-eqb n 3 k₂,
-                  passes₂,
-                  next p 2,
+                  first_bad s (suc (length s)) p (p + 2) other _ (eqb n 3) z,
                 ))
 
-            module _ (k₂ : n ≡ 3 → ⊥) {t₃ : Bool} (w₃ : t₃ ≡ (0x80 ‥ 0xBF) (byte_at s (p + 3))) where
-              last : n ≡ 4
-              last = lead_length b (sym f ∙ g) k k₂
+            module _ (x₂ : t₂ ≡ true) where
+              here₂ : (0x80 ‥ 0xBF) (byte_at s (p + 2)) ≡ true
+              here₂ = sym w₂ ∙ x₂
 
-              -- The fourth byte is not in its range.
-              pub no_fourth : {q : ℕ} → not t₃ ≡ true → q ≡ p → Ended q s p
-              unfolding parse other
-              no_fourth x₃ y₀ =
-                  ended_none i y₀
-                  (begins g
-                  ∙ rw (
-                    lt-ltb p (length s) i,
-                    ne_eqb n 2 k,
-                    passes,
-                    next p 1,
-                    ne_eqb n 3 k₂,
-                    passes₂,
-                    next p 2,
-                    eq-eqb n 4 last,
-                    bad s (suc (length s)) p (p + 3) 0x80 0xBF (sym w₃ ∙ not-true t₃ x₃),
-                  ))
+              passes₂ : parse s (suc (length s)) (second 0x80 0xBF) p (p + 2)
+                  ≡ got true (byte (byte_at s (p + 2)) nil) (p + 2 + 1)
+              passes₂ = good s _ p (p + 2) 0x80 0xBF (lit< tt) here₂
 
-              -- Four bytes.
-              pub four : {q : ℕ} → not t₃ ≡ false → q ≡ p + 4 → Ended q s p
+              -- Three bytes.
+              pub three : n ≡ 3 → Past (p + 3) s (marked sequence) p 1
               unfolding parse other ◌⋈◌
-              four x₃ y₀ =
-                  let z = sym w₃ ∙ not-false t₃ x₃ in
-                  ended_at_lem i 3
-                  (byte (byte_at s p) (byte (byte_at s (p + 1))
-                  (byte (byte_at s (p + 2)) (byte (byte_at s (p + 3)) nil))))
-                  y₀
-                  (range_inside s (p + 3) 0x80 0xBF (lit< tt) z)
+              three k₂ =
+                  ended_at_lem 2 (byte (byte_at s p) (byte (byte_at s (p + 1)) (byte (byte_at s (p + 2)) nil)))
+                  (range_inside s (p + 2) 0x80 0xBF (lit< tt) here₂)
                   (begins g
                   ∙ rw (
                     lt-ltb p (length s) i,
                     ne_eqb n 2 k,
                     passes,
                     next p 1,
-                    ne_eqb n 3 k₂,
+                    eq-eqb n 3 k₂,
                     passes₂,
                     next p 2,
-                    eq-eqb n 4 last,
-                    good s (suc (length s)) p (p + 3) 0x80 0xBF (lit< tt) z,
-                    next p 3,
                   ))
+
+              module _ (k₂ : n ≡ 3 → ⊥) {t₃ : Bool} (w₃ : t₃ ≡ (0x80 ‥ 0xBF) (byte_at s (p + 3))) where
+                last : n ≡ 4
+                last = lead_length b (sym f ∙ g) k k₂
+
+                -- The fourth byte is not in its range.
+                pub no_fourth : t₃ ≡ false → read_at s (marked sequence) p ≡ trouble not_utf8 p p 0 0
+                unfolding parse other
+                no_fourth x₃ =
+                    (begins g
+                    ∙ rw (
+                      lt-ltb p (length s) i,
+                      ne_eqb n 2 k,
+                      passes,
+                      next p 1,
+                      ne_eqb n 3 k₂,
+                      passes₂,
+                      next p 2,
+                      eq-eqb n 4 last,
+                      bad s (suc (length s)) p (p + 3) 0x80 0xBF (sym w₃ ∙ x₃),
+                    ))
+
+                -- Four bytes.
+                pub four : t₃ ≡ true → Past (p + 4) s (marked sequence) p 1
+                unfolding parse other ◌⋈◌
+                four x₃ =
+                    let z = sym w₃ ∙ x₃ in
+                    ended_at_lem 3
+                    (byte (byte_at s p) (byte (byte_at s (p + 1))
+                    (byte (byte_at s (p + 2)) (byte (byte_at s (p + 3)) nil))))
+                    (range_inside s (p + 3) 0x80 0xBF (lit< tt) z)
+                    (begins g
+                    ∙ rw (
+                      lt-ltb p (length s) i,
+                      ne_eqb n 2 k,
+                      passes,
+                      next p 1,
+                      ne_eqb n 3 k₂,
+                      passes₂,
+                      next p 2,
+                      eq-eqb n 4 last,
+                      good s (suc (length s)) p (p + 3) 0x80 0xBF (lit< tt) z,
+                      next p 3,
+                    ))
 
 pub ruleset sequence_steps = (lead_bad, lead_ascii, no_second, two, no_third, three, no_fourth, four)

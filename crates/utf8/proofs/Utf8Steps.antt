@@ -2,28 +2,30 @@
 use mathlib.Core.Path.{◌≡◌, refl, sym, ap, subst, ◌∙◌}
 use mathlib.Core.Bool.{true, false}
 use mathlib.Core.List.{List}
+use Rattle.std.specs.Prelude.{Option, None, Some}
 use Prim.Native.Nat.{ℕ, ◌+◌, ◌-◌, ◌≤◌, ◌<◌}
 use native.Mathlib.Omega.{arith}
 use mir.Syntax.{w8}
 use mir.Val.{Fits}
 use lib.Dec.{leb}
 use lib.ListN.{length, get_or, get_or-eq_default}
-use borrow.Author.Tests.{lt-ltb, lt-leb, leb-false, eq-eqb, ne_eqb}
+use borrow.Author.Tests.{lt-ltb, lt-leb, leb-false, ne_eqb}
 use Rattle.rules.specs.Forest.{nil, byte}
 use Rattle.rules.specs.Rule.{Rule, stop, when, marked, ◌⇒◌∣◌}
 use Rattle.rules.specs.Parse.{got, byte_at, parsed, read_at, parse}
 use Rattle.jsx.specs.Refusal.{not_utf8}
 use Rattle.jsx.specs.Byte.{end}
 use Rattle.jsx.specs.Utf8.{sequence, utf8}
-use Rattle.lex.specs.Contract.{out_of, nothing, Leaf}
-use Rattle.lex.specs.declared.Ans.TheVariants.{Got, No}
+use Rattle.lex.specs.Contract.{out_of, nothing, Leaf, Past}
+use Rattle.lex.specs.Answer.{Got, No}
 use Rattle.lex.proofs.Laws.{inside, before_end, when_no, leaf_stop, leaf_done}
 use Rattle.lex.proofs.Turns.{Turns, turns_begin, turns_more, turns_end, turns_no}
+use Rattle.lex.proofs.Results.{results_made}
 use Rattle.lanes.specs.Lanes.{beyond}
 use Rattle.lanes.specs.First.{First}
 use Rattle.lanes.proofs.Over.{turns_over}
-use Rattle.utf8.specs.Lead.{Ended}
 use Rattle.lex.proofs.Ranges.{in_range}
+use Rattle.utf8.specs.Lead.{Ended}
 
 -- The rule `utf8` is `many turn`.
 abbrev pub turn : Rule
@@ -72,17 +74,18 @@ module _ {s : List ℕ} {p : ℕ} (v : Turns s turn 0 0 p) where
           let w = turns_more (ascii_passes h) m (omega arith) (omega arith) in
           turns_over beyond (subst (Turns s turn 0 0) e w) l.clear (passes s each)
 
-    module _ {q : ℕ} (l : Ended q s p) where
+    module _ {x : Option ℕ} (l : Ended x s p) where
       -- No sequence begins here.
-      pub utf8_stops : q ≡ p → Leaf nothing (No not_utf8 p p 0 0) s utf8 0 0
+      pub utf8_stops : x ≡ None → Leaf nothing (No not_utf8 p p 0 0) s utf8 0 0
       unfolding utf8
-      utf8_stops h = leaf_stop nothing s utf8 0 0 refl (turns_no v (on s each p i ∙ l.is ∙ rw (eq-eqb q p h)))
+      utf8_stops h = leaf_stop nothing s utf8 0 0 refl (turns_no v (on s each p i ∙ rw h at l))
 
       -- One does.
-      pub utf8_goes_on : (q ≡ p → ⊥) → Turns s turn 0 0 q
-      utf8_goes_on h =
-          let o = out_of (read_at s (marked sequence) p) in
-          turns_more v {o = o} (on s each p i ∙ l.is ∙ rw (ne_eqb q p h)) (omega arith) l.far.1
+      pub utf8_goes_on : {q : ℕ} → x ≡ Some q → Turns s turn 0 0 q
+      utf8_goes_on {q} h =
+          let m : Past q s (marked sequence) p 1 = rw h at l in
+          let k = m.far in
+          turns_more v {o = out_of (read_at s (marked sequence) p)} (on s each p i ∙ m.is) (omega arith) (omega arith)
 
 -- What is asked: behind two bytes of ASCII is within the input, and nearer to its end.
 module _ (s : List ℕ) (p : ℕ) {b : ℕ} (y : b ≡ byte_at s (p + 1)) (k : b < 0x80) where
@@ -100,4 +103,4 @@ module _ (s : List ℕ) (p : ℕ) {b : ℕ} (y : b ≡ byte_at s (p + 1)) (k : b
 pub byte_here : (s : List ℕ) (p : ℕ) → p < length s → byte_at s p ≡ get_or s p 0
 byte_here s p i = sym (inside s p 0 256 i)
 
-pub ruleset utf8_steps = (utf8_begins, utf8_ends, ascii_passes, ascii_goes_on, utf8_stops, utf8_goes_on)
+pub ruleset utf8_steps = (results_made, utf8_begins, utf8_ends, ascii_passes, ascii_goes_on, utf8_stops, utf8_goes_on)

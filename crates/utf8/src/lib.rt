@@ -5,37 +5,36 @@ ghost use Rattle.std.specs.Prelude.{◌≡◌, ◌<◌, length};
 ghost use Rattle.rules.specs.Parse.{byte_at};
 ghost use Rattle.jsx.specs.Byte.{◌‥◌};
 ghost use Rattle.jsx.specs.Utf8.{utf8 as utf8_rule};
+ghost use Rattle.lex.specs.Answer.{said};
 ghost use Rattle.lex.specs.Contract.{Leaf, nothing};
 ghost use Rattle.utf8.specs.Lead.{lead_of, Ended};
 
-use lex::Ans;
-use lex::refusal::NOT_UTF8;
+use lanes::sought::Beyond;
+use lex::refusal::{Reason, Refusal};
 
-// What a lead byte says.
-#[derive(Drop)]
+// What a lead byte says of the sequence that it begins.
+#[derive(Clone, Copy)]
 enum Lead {
-    // A byte alone.
+    // The byte alone.
     Alone,
     // The sequence's length, and the bounds of its second byte.
     Of(usize, u8, u8),
-    // No good sequence begins so.
-    Bad,
 }
 
-// Document 01's table of lead bytes.
-fn lead_of(b: u8) -> Lead
+// Document 01's table of lead bytes; no good sequence begins with any other.
+fn lead_of(b: u8) -> Option<Lead>
     ensures { result ≡ lead_of b }
 {
     match b {
-        0x00..=0x7F => Lead::Alone,
-        0xC2..=0xDF => Lead::Of(2, 0x80, 0xBF),
-        0xE0 => Lead::Of(3, 0xA0, 0xBF),
-        0xE1..=0xEC | 0xEE..=0xEF => Lead::Of(3, 0x80, 0xBF),
-        0xED => Lead::Of(3, 0x80, 0x9F),
-        0xF0 => Lead::Of(4, 0x90, 0xBF),
-        0xF1..=0xF3 => Lead::Of(4, 0x80, 0xBF),
-        0xF4 => Lead::Of(4, 0x80, 0x8F),
-        _ => Lead::Bad,
+        0x00..=0x7F => Some(Lead::Alone),
+        0xC2..=0xDF => Some(Lead::Of(2, 0x80, 0xBF)),
+        0xE0 => Some(Lead::Of(3, 0xA0, 0xBF)),
+        0xE1..=0xEC | 0xEE..=0xEF => Some(Lead::Of(3, 0x80, 0xBF)),
+        0xED => Some(Lead::Of(3, 0x80, 0x9F)),
+        0xF0 => Some(Lead::Of(4, 0x90, 0xBF)),
+        0xF1..=0xF3 => Some(Lead::Of(4, 0x80, 0xBF)),
+        0xF4 => Some(Lead::Of(4, 0x80, 0x8F)),
+        _ => None,
     }
 }
 
@@ -43,48 +42,41 @@ fn lead_of(b: u8) -> Lead
 fn within(s: &[u8], at: usize, lo: u8, hi: u8) -> bool
     ensures { result ≡ (lo ‥ hi) (byte_at s.now at) }
 {
-    if s.len() <= at {
-        return false;
-    }
-    let b = s[at];
-    if b < lo {
-        return false;
-    }
-    b <= hi
+    at < s.len() && (lo..=hi).contains(&s[at])
 }
 
-// The end of the sequence whose lead byte b stands at p; p itself where no good sequence begins.
-fn sequence(s: &[u8], p: usize, b: u8) -> usize
+// The end of the sequence whose lead byte b stands at p, if a good one begins there.
+fn sequence(s: &[u8], p: usize, b: u8) -> Option<usize>
     requires { (p < length s.now) × (byte_at s.now p ≡ b) }
     ensures { Ended result s.now p }
 {
     match lead_of(b) {
-        Lead::Bad => p,
-        Lead::Alone => p + 1,
-        Lead::Of(n, lo, hi) => {
+        None => None,
+        Some(Lead::Alone) => Some(p + 1),
+        Some(Lead::Of(n, lo, hi)) => {
             if !within(s, p + 1, lo, hi) {
-                return p;
+                return None;
             }
             if n == 2 {
-                return p + 2;
+                return Some(p + 2);
             }
             if !within(s, p + 2, 0x80, 0xBF) {
-                return p;
+                return None;
             }
             if n == 3 {
-                return p + 3;
+                return Some(p + 3);
             }
             if !within(s, p + 3, 0x80, 0xBF) {
-                return p;
+                return None;
             }
-            p + 4
+            Some(p + 4)
         }
     }
 }
 
-// The length of an input that is UTF-8, and the number 0; or refusal 2 where no good sequence begins.
-pub fn utf8(s: &[u8]) -> Ans
-    ensures { Leaf nothing result s.now utf8_rule 0 0 }
+// The length of an input that is UTF-8; or refusal 2 where no good sequence begins.
+pub fn utf8(s: &[u8]) -> Result<usize, Refusal>
+    ensures { Leaf nothing (said result) s.now utf8_rule 0 0 }
 {
     let mut p = 0;
     while p < s.len() {
@@ -92,17 +84,16 @@ pub fn utf8(s: &[u8]) -> Ans
         if b < 0x80 {
             // One byte of ASCII alone, as a blank between words beyond it, is not worth a look ahead.
             if lex::byte(s, p + 1) < 0x80 {
-                p = lanes::find_beyond(s, p + 2);
+                p = lanes::find(s, p + 2, Beyond);
                 continue;
             }
             p = p + 1;
             continue;
         }
-        let q = sequence(s, p, b);
-        if q == p {
-            return Ans::No(NOT_UTF8, p, p, 0, 0);
-        }
-        p = q;
+        let Some(end) = sequence(s, p, b) else {
+            return Err(Reason::NotUtf8.at(p));
+        };
+        p = end;
     }
-    Ans::Got(p, 0)
+    Ok(p)
 }

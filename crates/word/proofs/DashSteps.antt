@@ -1,40 +1,39 @@
--- Whether a dash is among some bytes, step by step.
-use mathlib.Core.Path.{◌≡◌, refl, sym, ◌∙◌}
+-- A dash among the bytes of a part of a slice.
+use mathlib.Core.Path.{◌≡◌, refl, ap, ◌∙◌}
+use mathlib.Core.Bool.{Bool, true, false, ◌||◌}
 use mathlib.Core.List.{List}
-use Prim.Native.Nat.{ℕ, suc, ◌+◌, ◌-◌, ◌≤◌, ◌<◌}
-use Prim.Native.Char.{code}
+use Prim.Native.Nat.{ℕ, zero, suc, ◌+◌, ◌-◌, ◌≤◌}
 use native.Mathlib.Omega.{arith}
-use borrow.Author.Tests.{eq-eqb, ne_eqb}
-use Rattle.rules.specs.Parse.{byte_at}
+use lib.Dec.{eqb}
+use lib.ListN.{length, take, drop, get_or}
+use Rattle.std.specs.List.{list_any, slice_range}
+use Rattle.std.proofs.lemmas.List.{drop_more}
+use Rattle.rules.specs.Parse.{pick}
 use Rattle.jsx.specs.Name.{has, dashed}
+use Rattle.lex.specs.Answer.{flag}
 use Rattle.lex.specs.Contract.{bytes_from}
 
--- From a on, up to p, there is no dash.
-pub record NoDash (s : List ℕ) (a b p : ℕ) : Type 0 where
-  pub inside : p ≤ b
-  pub so : dashed (bytes_from s a (b - a)) ≡ dashed (bytes_from s p (b - p))
+either : (a b : Bool) → (a || b) ≡ pick a true b
+either true b = refl
+either false b = refl
 
--- Before the first byte.
-pub dash_begins : {s : List ℕ} {a b : ℕ} → a ≤ b → NoDash s a b a
-dash_begins h = record { inside = h; so = refl }
+-- One is among the first n bytes from a on.
+among_first : (s : List ℕ) (a n : ℕ) → a + n ≤ length s
+    → list_any (λ b. eqb b 45) (take n (drop a s)) ≡ has "-" (bytes_from s a n)
+unfolding has bytes_from
+among_first s a zero h = refl
+among_first s a (suc n) h =
+    rw (drop_more s a 256 (omega arith))
+    (either (eqb (get_or s a 256) 45) (list_any (λ b. eqb b 45) (take n (drop (a + 1) s)))
+    ∙ ap (pick (eqb (get_or s a 256) 45) true) (among_first s (a + 1) n (omega arith)))
 
-module _ {s : List ℕ} {a b p : ℕ} (v : NoDash s a b p) (i : p < b) {c : ℕ} (y : c ≡ byte_at s p) where
-  rest : b - p ≡ suc (b - (p + 1))
-  rest = omega arith
-
-  -- A dash.
-  pub dash_found : c ≡ code "-" → 1 ≡ dashed (bytes_from s a (b - a))
-  unfolding dashed has bytes_from
-  dash_found x = sym (v.so ∙ rw (rest, eq-eqb (byte_at s p) 45 (sym y ∙ x)))
-
-  -- Another byte.
-  pub dash_goes_on : (c ≡ code "-" → ⊥) → NoDash s a b (p + 1)
-  unfolding dashed has bytes_from
-  dash_goes_on x = record { inside = omega arith; so = v.so ∙ rw (rest, ne_eqb (byte_at s p) 45 (λ e. x (y ∙ e))) }
-
--- All bytes were seen.
-pub dash_none : {s : List ℕ} {a b p : ℕ} → NoDash s a b p → b ≤ p → 0 ≡ dashed (bytes_from s a (b - a))
-unfolding dashed has bytes_from
-dash_none {b = b} {p} v h = let e : b - p ≡ 0 = omega arith in sym (v.so ∙ rw e)
-
-pub ruleset dash_steps = (dash_begins, dash_found, dash_goes_on, dash_none)
+-- The flag for one is the number for it.
+pub dash_among : (s : List ℕ) (a b : ℕ) → a ≤ b → b ≤ length s → {r : Bool}
+    → r ≡ list_any (λ c. eqb c 45) (slice_range s a b)
+    → flag r ≡ dashed (bytes_from s a (b - a))
+unfolding dashed
+dash_among s a b h k {r} e = ap flag (e ∙ among_first s a (b - a) (omega arith)) ∙ go (has "-" (bytes_from s a (b - a)))
+  where
+    go : (x : Bool) → flag x ≡ pick x 1 0
+    go true = refl
+    go false = refl

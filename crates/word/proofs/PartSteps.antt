@@ -8,19 +8,21 @@ use native.Mathlib.Decide.{dec_lt}
 use lib.ListN.{length}
 use borrow.Author.Rules.{rules}
 use borrow.Author.Tests.{lt-ltb, le-ltb}
+use Rattle.std.specs.Prelude.{Option, Some, None, is_some}
+use Rattle.std.specs.Option.{unwrap_or}
+use Rattle.std.specs.Bool.{then_some}
 use Rattle.rules.specs.Forest.{nil}
 use Rattle.rules.specs.Rule.{Rule, stop, when_char, ◌⇒◌∣◌}
 use Rattle.rules.specs.Parse.{got, trouble, pick, and_then, behind, byte_at, no_char, code_at, parse, parsed, read_at}
 use Rattle.rules.proofs.Run.{never}
-use Rattle.rules.proofs.Got.{false_true}
 use Rattle.jsx.specs.Refusal.{unexpected, end_of_input}
 use Rattle.jsx.specs.Byte.{end, is, ◌or◌, character, need}
 use Rattle.jsx.specs.Ranges.{start_ranges, continue_ranges}
 use Rattle.jsx.specs.Unicode.{in_ranges}
 use Rattle.jsx.specs.Name.{opens_name, opens_part, in_part, part as name_part}
 use Rattle.lex.specs.Contract.{out_of, nothing, Leaf, Past}
-use Rattle.lex.specs.declared.Ans.{Ans}
-use Rattle.lex.specs.declared.Ans.TheVariants.{Got}
+use Rattle.lex.specs.Answer.{Ans}
+use Rattle.lex.specs.Answer.{Got}
 use Rattle.lex.proofs.Laws as Lex
 use Rattle.lex.proofs.Turns.{Turns, turns_begin, turns_more, turns_end}
 use Rattle.character.specs.Width.{width_of}
@@ -28,7 +30,7 @@ use Rattle.character.proofs.CodeSteps.{code_alone}
 use Rattle.character.proofs.WidthSteps.{width_one}
 use Rattle.character.proofs.Read.{character_inside, character_wide, character_read}
 use Rattle.identifier.specs.Script.{common, gap}
-use Rattle.word.specs.Here.{name_byte, part_width, common_width, ends_part, rest_of_part, EndOfPart}
+use Rattle.word.specs.Here.{name_byte, part_width, common_width, ends_part, rest_of_part}
 use Rattle.word.proofs.Ascii.{opens_low, name_low}
 use Rattle.word.proofs.RunSteps.{opens_inside, past_is}
 use Rattle.word.proofs.PartTests
@@ -64,15 +66,14 @@ module _ (s : List ℕ) (at : ℕ) {b : ℕ} (y : b ≡ byte_at s at) where
     part_of_byte = ap in_part (sym (code_alone s at y h)) ∙ PartTests.in_ascii b h
 
     module _ {t : Bool} (i : t ≡ name_byte b) where
-      -- It is one of a name,
-      pub common_byte : t ≡ true → 1 ≡ common_width s at
+      -- It is one of a name, or it is not.
+      pub common_byte : {o : Option ℕ} → o ≡ then_some t 1 → o ≡ common_width s at
       unfolding common_width
-      common_byte x = sym (rw (← y, lt-ltb b 0x80 h, sym i ∙ x))
-
-      -- or it is not.
-      pub common_no_byte : t ≡ false → 0 ≡ common_width s at
-      unfolding common_width
-      common_no_byte x = sym (rw (← y, lt-ltb b 0x80 h, sym i ∙ x))
+      common_byte e = e ∙ ap (λ (x : Bool). then_some {T = ℕ} x 1) i ∙ go (name_byte b) ∙ sym (rw (← y, lt-ltb b 0x80 h))
+        where
+          go : (x : Bool) → then_some {T = ℕ} x 1 ≡ pick x (Some 1) None
+          go true = refl
+          go false = refl
 
   module _ (h : 0x80 ≤ b) {c : ℕ} (z : c ≡ code_at s at) where
     -- A character beyond ASCII that stands between names, or does not.
@@ -82,23 +83,23 @@ module _ (s : List ℕ) (at : ℕ) {b : ℕ} (y : b ≡ byte_at s at) where
 
     module _ {t : Bool} (i : t ≡ common c) where
       -- One of a common script,
-      pub common_here : t ≡ true → {n : ℕ} → n ≡ width_of b → n ≡ common_width s at
+      pub common_here : t ≡ true → {n : ℕ} → n ≡ width_of b → Some n ≡ common_width s at
       unfolding common_width
-      common_here x e = e ∙ sym (rw (← y, le-ltb b 0x80 h, sym (ap common z) ∙ sym i ∙ x))
+      common_here x e = ap Some e ∙ sym (rw (← y, le-ltb b 0x80 h, sym (ap common z) ∙ sym i ∙ x))
 
       -- and one that is not.
-      pub common_none : t ≡ false → 0 ≡ common_width s at
+      pub common_none : t ≡ false → None ≡ common_width s at
       unfolding common_width
       common_none x = sym (rw (← y, le-ltb b 0x80 h, sym (ap common z) ∙ sym i ∙ x))
 
 module _ (s : List ℕ) (at : ℕ) {c : ℕ} (z : c ≡ code_at s at) {t : Bool} (i : t ≡ in_part c) where
   -- A character of a part,
-  pub width_here : t ≡ true → {b n : ℕ} → b ≡ byte_at s at → n ≡ width_of b → n ≡ part_width s at
+  pub width_here : t ≡ true → {b n : ℕ} → b ≡ byte_at s at → n ≡ width_of b → Some n ≡ part_width s at
   unfolding part_width
-  width_here x y e = e ∙ ap width_of y ∙ sym (rw (sym (ap in_part z) ∙ sym i ∙ x))
+  width_here x y e = ap Some (e ∙ ap width_of y) ∙ sym (rw (sym (ap in_part z) ∙ sym i ∙ x))
 
   -- and one of none.
-  pub width_none : t ≡ false → 0 ≡ part_width s at
+  pub width_none : t ≡ false → None ≡ part_width s at
   unfolding part_width
   width_none x = sym (rw (sym (ap in_part z) ∙ sym i ∙ x))
 
@@ -108,6 +109,9 @@ pub opens_here : (s : List ℕ) (at : ℕ) {c : ℕ} → c ≡ code_at s at → 
 opens_here s at z i = i ∙ ap opens_part z
 
 -- ---- a character of a part
+
+the : {n m : ℕ} → Some n ≡ Some m → n ≡ m
+the f = ap (λ (o : Option ℕ). unwrap_or o 0) f
 
 module _ (s : List ℕ) (p : ℕ) where
   -- A character of n bytes that goes on with a part.
@@ -124,46 +128,48 @@ module _ (s : List ℕ) (p : ℕ) where
       let i = character_inside s p k in
       record { coded = t; wide = e; some = omega arith; inside = omega arith }
 
-  -- Its width is not 0; where none stands, it is.
-  here : {n : ℕ} → n ≡ part_width s p → (n ≡ 0 → ⊥) → OnePart n
+  -- It has a width; where none stands, there is none.
+  here : {n : ℕ} → Some n ≡ part_width s p → OnePart n
   unfolding part_width
-  here {n} e k = go (in_part (code_at s p)) refl
+  here {n} e = go (in_part (code_at s p)) refl
     where
       go : (t : Bool) → in_part (code_at s p) ≡ t → OnePart n
-      go true x = part_of x (e ∙ rw x)
-      go false x = absurd (k (e ∙ rw x))
+      go true x = let f : Some n ≡ Some (width_of (byte_at s p)) = e ∙ rw x in part_of x (the f)
+      go false x = let f : Some n ≡ None = e ∙ rw x in never (sym (ap is_some f))
 
-  none : {n : ℕ} → n ≡ part_width s p → n ≡ 0 → in_part (code_at s p) ≡ false
+  none : None ≡ part_width s p → in_part (code_at s p) ≡ false
   unfolding part_width
-  none e k = go (in_part (code_at s p)) refl
+  none e = go (in_part (code_at s p)) refl
     where
       go : (t : Bool) → in_part (code_at s p) ≡ t → in_part (code_at s p) ≡ false
-      go true x = let b = part_of {n = width_of (byte_at s p)} x refl in
-          let z : width_of (byte_at s p) ≡ 0 = sym (e ∙ rw x) ∙ k in
-          absurd (omega arith)
+      go true x = let f : None ≡ Some (width_of (byte_at s p)) = e ∙ rw x in never (ap is_some f)
       go false x = x
 
   -- The same of one of ASCII or of a common script.
-  common_here_part : {n : ℕ} → n ≡ common_width s p → (n ≡ 0 → ⊥) → OnePart n
+  common_here_part : {n : ℕ} → Some n ≡ common_width s p → OnePart n
   unfolding common_width
-  common_here_part {n} e k = go (dec_lt (byte_at s p) 0x80) (name_byte (byte_at s p)) refl (common (code_at s p)) refl
+  common_here_part {n} e = go (dec_lt (byte_at s p) 0x80) (name_byte (byte_at s p)) refl (common (code_at s p)) refl
     where
       go : Dec (byte_at s p < 0x80) → (t : Bool) → name_byte (byte_at s p) ≡ t → (u : Bool) → common (code_at s p) ≡ u
           → OnePart n
       go (yes h) true x u v =
-          part_of (part_of_byte s p refl h ∙ x) (e ∙ rw (lt-ltb (byte_at s p) 0x80 h, x) (width_one (omega arith)))
-      go (yes h) false x u v = absurd (k (e ∙ rw (lt-ltb (byte_at s p) 0x80 h, x)))
+          let f : Some n ≡ Some 1 = e ∙ rw (lt-ltb (byte_at s p) 0x80 h, x) in
+          part_of (part_of_byte s p refl h ∙ x) (the f ∙ width_one (omega arith))
+      go (yes h) false x u v =
+          let f : Some n ≡ None = e ∙ rw (lt-ltb (byte_at s p) 0x80 h, x) in never (sym (ap is_some f))
       go (no h) t x true v =
-          part_of (PartTests.common_goes_on (code_at s p) v) (e ∙ rw (le-ltb (byte_at s p) 0x80 (omega arith), v))
-      go (no h) t x false v = absurd (k (e ∙ rw (le-ltb (byte_at s p) 0x80 (omega arith), v)))
+          let f : Some n ≡ Some (width_of (byte_at s p)) = e ∙ rw (le-ltb (byte_at s p) 0x80 (omega arith), v) in
+          part_of (PartTests.common_goes_on (code_at s p) v) (the f)
+      go (no h) t x false v =
+          let f : Some n ≡ None = e ∙ rw (le-ltb (byte_at s p) 0x80 (omega arith), v) in never (sym (ap is_some f))
 
   -- Where none of these stands, and a byte of ASCII or what stands between names does, the part ends.
-  common_ends_part : {n : ℕ} → n ≡ common_width s p → n ≡ 0 → ends_part s p ≡ true → in_part (code_at s p) ≡ false
+  common_ends_part : None ≡ common_width s p → ends_part s p ≡ true → in_part (code_at s p) ≡ false
   unfolding common_width ends_part
-  common_ends_part {n} e k h = by (dec_lt (byte_at s p) 0x80)
+  common_ends_part e h = by (dec_lt (byte_at s p) 0x80)
     where
       go : byte_at s p < 0x80 → (t : Bool) → name_byte (byte_at s p) ≡ t → name_byte (byte_at s p) ≡ false
-      go l true x = absurd (let z : 1 ≡ 0 = sym (e ∙ rw (lt-ltb (byte_at s p) 0x80 l, x)) ∙ k in omega arith)
+      go l true x = let f : None ≡ Some 1 = e ∙ rw (lt-ltb (byte_at s p) 0x80 l, x) in never (ap is_some f)
       go l false x = x
 
       by : Dec (byte_at s p < 0x80) → in_part (code_at s p) ≡ false
@@ -207,23 +213,21 @@ module _ {s : List ℕ} {at p : ℕ} (v : Turns s part_turn 0 at p) where
       let g = l.far in
       record { is = Lex.known _ (v.so ∙ ap (behind v.acc) l.is); far = omega arith }
 
-  module _ {n : ℕ} (e : n ≡ part_width s p) where
-    -- One character more,
-    pub part_goes_on : (n ≡ 0 → ⊥) → Turns s part_turn 0 at (p + n)
-    part_goes_on k = goes_on (here s p e k)
+  -- One character more,
+  pub part_goes_on : {n : ℕ} → Some n ≡ part_width s p → Turns s part_turn 0 at (p + n)
+  part_goes_on e = goes_on (here s p e)
 
-    -- or none.
-    pub part_stops : n ≡ 0 → Past p s rest_of_part at 0
-    part_stops k = ends (none s p e k)
+  -- or none.
+  pub part_stops : None ≡ part_width s p → Past p s rest_of_part at 0
+  part_stops e = ends (none s p e)
 
-  module _ {n : ℕ} (e : n ≡ common_width s p) where
-    -- One character of ASCII or of a common script more,
-    pub common_goes_on : (n ≡ 0 → ⊥) → Turns s part_turn 0 at (p + n)
-    common_goes_on k = goes_on (common_here_part s p e k)
+  -- One character of ASCII or of a common script more,
+  pub common_goes_on : {n : ℕ} → Some n ≡ common_width s p → Turns s part_turn 0 at (p + n)
+  common_goes_on e = goes_on (common_here_part s p e)
 
-    -- or none, and it ends.
-    pub common_stops : n ≡ 0 → {t : Bool} → t ≡ ends_part s p → t ≡ true → Past p s rest_of_part at 0
-    common_stops k i x = ends (common_ends_part s p e k (sym i ∙ x))
+  -- or none, and it ends.
+  pub common_stops : None ≡ common_width s p → {t : Bool} → t ≡ ends_part s p → t ≡ true → Past p s rest_of_part at 0
+  common_stops e i x = ends (common_ends_part s p e (sym i ∙ x))
 
 -- ---- behind a first byte of ASCII
 
@@ -304,69 +308,45 @@ module _ (s : List ℕ) (at : ℕ) where
       let e : Past p s rest_of_part (at + 1) 0 = ends v.turns (part_of_byte s p y (omega arith) ∙ sym i ∙ x) in
       past_is (part_got o (rw (← n) e))
 
-  module _ {t : Bool} (i : t ≡ opens_part (code_at s at)) where
-    -- None begins here.
-    pub part_none : t ≡ false → EndOfPart 0 s at
-    part_none x = record { some = λ h. false_true (sym i ∙ x) h; none = λ h. refl }
+  module _ (h : opens_part (code_at s at) ≡ true) {b : ℕ} (y : b ≡ byte_at s at) {n : ℕ} (e : n ≡ width_of b) where
+    -- The first character stands within the input,
+    pub first_inside : at + n ≤ length s
+    first_inside =
+        let k : code_at s at ≡ no_char → ⊥ = λ z. never (sym PartTests.none_opens ∙ sym (ap opens_part z) ∙ h) in
+        let l = character_inside s at k in
+        rw (e, y) l
 
-    module _ (x : t ≡ true) {b : ℕ} (y : b ≡ byte_at s at) {n : ℕ} (e : n ≡ width_of b) where
-      -- The first character stands within the input,
-      pub first_inside : at + n ≤ length s
-      first_inside =
-          let k : code_at s at ≡ no_char
-          → ⊥ = λ z. never (sym PartTests.none_opens ∙ sym (ap opens_part z) ∙ sym i ∙ x) in
-          let l = character_inside s at k in
-          rw (e, y) l
+    -- and the part goes on behind it.
+    pub first_got : {q : ℕ} → Past q s rest_of_part (at + n) 0 → Past q s name_part at 1
+    first_got {q} l = part_got h (subst (λ (m : ℕ). Past q s rest_of_part (at + m) 0) (e ∙ ap width_of y) l)
 
-      -- and the part goes on behind it.
-      pub first_got : {q : ℕ} → Past q s rest_of_part (at + n) 0 → EndOfPart q s at
-      first_got {q} l =
-          let m = subst (λ (m : ℕ). Past q s rest_of_part (at + m) 0) (e ∙ ap width_of y) l in
-          record { some = λ h. part_got h m; none = λ h. false_true h (sym i ∙ x) }
+    -- The sum that passes it fits.
+    pub first_fits : length s * 1 < 2 ^ 63 → at + n < 2 ^ 64
+    first_fits l = let j = first_inside in omega arith
 
-      -- The sum that passes it fits.
-      pub first_fits : length s * 1 < 2 ^ 63 → at + n < 2 ^ 64
-      first_fits l = let j = first_inside in omega arith
-
-  module _ {e : ℕ} (l : EndOfPart e s at) where
-    -- It was seen to begin.
-    pub end_seen : opens_part (code_at s at) ≡ true → Past e s name_part at 1
-    end_seen h = l.some h
-
-    -- It ends somewhere,
-    pub part_found : (e ≡ 0 → ⊥) → Past e s name_part at 1
-    part_found k = go (opens_part (code_at s at)) refl
-      where
-        go : (b : Bool) → opens_part (code_at s at) ≡ b → Past e s name_part at 1
-        go true h = l.some h
-        go false h = absurd (k (l.none h))
-
-    -- or does not begin.
-    pub part_fails : e ≡ 0 → {r : Ans} → Leaf nothing r s need at 0 → Leaf nothing r s name_part at 1
-    part_fails k m = Lex.leaf_refuses m (part_no (go (opens_part (code_at s at)) refl)) (Lex.need_fails s at)
-      where
-        go : (b : Bool) → opens_part (code_at s at) ≡ b → opens_part (code_at s at) ≡ false
-        go true h = let f = (l.some h).far in absurd (omega arith)
-        go false h = h
+  -- It does not begin.
+  pub part_fails : opens_part (code_at s at) ≡ false → {r : Ans} → Leaf nothing r s need at 0
+      → Leaf nothing r s name_part at 1
+  part_fails x m = Lex.leaf_refuses m (part_no x) (Lex.need_fails s at)
 
 -- ---- sums and loops
 
-module _ (s : List ℕ) (p : ℕ) {n : ℕ} (k : n ≡ 0 → ⊥) where
-  module _ (e : n ≡ part_width s p) where
+module _ (s : List ℕ) (p : ℕ) {n : ℕ} where
+  module _ (e : Some n ≡ part_width s p) where
     -- A character of a part: the sum that passes it fits, and behind it is nearer to the end.
     pub part_fits : length s * 1 < 2 ^ 63 → p + n < 2 ^ 64
-    part_fits l = let i = (here s p e k).inside in omega arith
+    part_fits l = let i = (here s p e).inside in omega arith
 
     pub part_nearer : length s - (p + n) < length s - p
-    part_nearer = let h = here s p e k in let i = h.inside in let w = h.some in omega arith
+    part_nearer = let h = here s p e in let i = h.inside in let w = h.some in omega arith
 
-  module _ (e : n ≡ common_width s p) where
+  module _ (e : Some n ≡ common_width s p) where
     -- The same of one of a common script.
     pub common_fits : length s * 1 < 2 ^ 63 → p + n < 2 ^ 64
-    common_fits l = let i = (common_here_part s p e k).inside in omega arith
+    common_fits l = let i = (common_here_part s p e).inside in omega arith
 
     pub common_nearer : length s - (p + n) < length s - p
-    common_nearer = let h = common_here_part s p e k in let i = h.inside in let w = h.some in omega arith
+    common_nearer = let h = common_here_part s p e in let i = h.inside in let w = h.some in omega arith
 
 pub ruleset part_steps = (
   rules,
@@ -376,7 +356,6 @@ pub ruleset part_steps = (
   in_by_table,
   ends_byte,
   common_byte,
-  common_no_byte,
   ends_by_code,
   common_here,
   common_none,
@@ -392,10 +371,7 @@ pub ruleset part_steps = (
   ascii_begins,
   byte_goes_on,
   ascii_ends,
-  part_none,
   first_got,
-  end_seen,
-  part_found,
   part_fails,
   past_is,
 )

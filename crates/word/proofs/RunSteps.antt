@@ -13,8 +13,8 @@ use Rattle.jsx.specs.Byte.{end, letter, digit, need}
 use Rattle.jsx.specs.Name.{opens_name, in_word}
 use Rattle.jsx.specs.Word.{word}
 use Rattle.lex.specs.Contract.{nothing, Leaf, Past}
-use Rattle.lex.specs.declared.Ans.{Ans}
-use Rattle.lex.specs.declared.Ans.TheVariants.{Got}
+use Rattle.lex.specs.Answer.{Ans}
+use Rattle.lex.specs.Answer.{Got}
 use Rattle.lex.proofs.Laws.{test_inside, tested, need_fails, leaf_refuses, leaf_done}
 use Rattle.lex.proofs.Turns.{Turns}
 use Rattle.lex.proofs.Runs.{run, run_begins, run_goes_on, run_ends, past}

@@ -1,14 +1,10 @@
-use Rattle.abi.proofs.Steps.{say_steps}
+use mathlib.Core.Path.{refl}
+use Rattle.stage.proofs.Replies.{replied_ok, replied_err}
+use Rattle.abi.proofs.Steps.{say_accepted, say_refused}
 use Rattle.abi.proofs.say.Goals as goal
 
-pub enum_known-r : goal.enum_known-r
-enum_known-r c = search say_steps
+pub returns-in-Ok : goal.returns-in-Ok
+returns-in-Ok c = say_accepted (replied_ok c.in-Ok.is) refl
 
-pub enum_known-r-in-Refused-1 : goal.enum_known-r-in-Refused-1
-enum_known-r-in-Refused-1 c = search say_steps
-
-pub returns-in-Accepted : goal.returns-in-Accepted
-returns-in-Accepted c = search say_steps
-
-pub returns-in-Refused : goal.returns-in-Refused
-returns-in-Refused c = search say_steps
+pub returns-in-Err : goal.returns-in-Err
+returns-in-Err c = say_refused (replied_err c.in-Err.is) c.number.ensures refl refl refl refl

@@ -1,11 +1,8 @@
-use Rattle.abi.proofs.Steps.{part_steps}
+use Rattle.abi.proofs.Steps.{says_some, says_none}
 use Rattle.abi.proofs.say_part.Goals as goal
 
-pub returns-then-end-start : goal.returns-then-end-start
-returns-then-end-start c = search part_steps
+pub returns-in-Some : goal.returns-in-Some
+returns-in-Some c = rw c.in-Some.is (says_some c.in-Some.start c.in-Some.end)
 
-pub returns-then-s-end : goal.returns-then-s-end
-returns-then-s-end c = search part_steps
-
-pub returns : goal.returns
-returns c = search part_steps
+pub returns-in-None : goal.returns-in-None
+returns-in-None c = rw c.in-None.is says_none

@@ -1,9 +1,5 @@
 use Rattle.blank.proofs.TestSteps.{test_steps}
-use Rattle.blank.proofs.Asked.{asked}
 use Rattle.blank.proofs.is_blank_char.Goals as goal
-
-pub is_blank-requires : goal.is_blank-requires
-is_blank-requires c = search asked
 
 pub returns-then-c-lt-WIDE : goal.returns-then-c-lt-WIDE
 returns-then-c-lt-WIDE c = search test_steps

@@ -1,41 +1,45 @@
 use Rattle.closing.proofs.CloseSteps.{by_name_steps, named_asked}
+use Rattle.lex.proofs.Results.{counted_ok, err_is, refused_is, said_ok}
 use Rattle.closing.proofs.close_by_name.Goals as goal
 
 pub inside-requires : goal.inside-requires
 inside-requires c = search named_asked
 
-pub parse_jsx_element_name-r-requires : goal.parse_jsx_element_name-r-requires
-parse_jsx_element_name-r-requires c = search named_asked
+pub parse_jsx_element_name-requires : goal.parse_jsx_element_name-requires
+parse_jsx_element_name-requires c = search named_asked
 
-pub enum_known-r : goal.enum_known-r
-enum_known-r c = search named_asked
+pub shape_of-t-in_err-f : goal.shape_of-t-in_err-f
+shape_of-t-in_err-f c = search named_asked
 
-pub enum_told-1 : goal.enum_told-1
-enum_told-1 c = search named_asked
+pub returns-in_err-f : goal.returns-in_err-f
+returns-in_err-f c = rw (err_is _ c.from_residual.ensures.1)
+    (search (by_name_steps, c.in_err-f.ensures, refused_is c.in_err-f.field-0.0))
 
-pub shape_of-t-in_default : goal.shape_of-t-in_default
-shape_of-t-in_default c = search named_asked
+pub close_by-requires : goal.close_by-requires
+close_by-requires c = search (named_asked, counted_ok c.branch-f.ensures c.in_ok-f.is)
 
-pub returns-in_default : goal.returns-in_default
-returns-in_default c = search by_name_steps
+pub shape_of-t-in_err-close_by : goal.shape_of-t-in_err-close_by
+shape_of-t-in_err-close_by c = search (named_asked, counted_ok c.branch-f.ensures c.in_ok-f.is)
 
-pub close_by-r2-requires : goal.close_by-r2-requires
-close_by-r2-requires c = search named_asked
-
-pub enum_told-in-Got-r2 : goal.enum_told-in-Got-r2
-enum_told-in-Got-r2 c = search named_asked
-
-pub enum_told-in_default-r2 : goal.enum_told-in_default-r2
-enum_told-in_default-r2 c = search named_asked
-
-pub shape_of-t-in_default-r2 : goal.shape_of-t-in_default-r2
-shape_of-t-in_default-r2 c = search named_asked
-
-pub returns-in_default-r2 : goal.returns-in_default-r2
-returns-in_default-r2 c = search by_name_steps
+pub returns-in_err-close_by : goal.returns-in_err-close_by
+returns-in_err-close_by c = rw (err_is _ c.from_residual-in_err-close_by.ensures.1)
+    (search (
+      by_name_steps,
+      c.in_err-close_by.ensures,
+      refused_is c.in_err-close_by.field-0.0,
+      counted_ok c.branch-f.ensures c.in_ok-f.is,
+    ))
 
 pub shape_of-t : goal.shape_of-t
-shape_of-t c = search named_asked
+shape_of-t c = search (
+  named_asked,
+  counted_ok c.branch-f.ensures c.in_ok-f.is,
+  said_ok c.branch-close_by.ensures c.in_ok-close_by.is,
+)
 
 pub returns : goal.returns
-returns c = search by_name_steps
+returns c = rw c.over_both.ensures (search (
+  by_name_steps,
+  counted_ok c.branch-f.ensures c.in_ok-f.is,
+  said_ok c.branch-close_by.ensures c.in_ok-close_by.is,
+))

@@ -1,32 +1,28 @@
 use Rattle.closing.proofs.CloseSteps.{read_asked, read_steps}
+use Rattle.lex.proofs.Results.{err_is, refused_is, said_ok}
 use Rattle.closing.proofs.close_read.Goals as goal
 
-pub close_open-r-requires : goal.close_open-r-requires
-close_open-r-requires c = search read_asked
+pub close_open-requires : goal.close_open-requires
+close_open-requires c = search read_asked
 
-pub enum_known-r : goal.enum_known-r
-enum_known-r c = search read_asked
-
-pub enum_told-1 : goal.enum_told-1
-enum_told-1 c = search read_asked
-
-pub returns-in_default : goal.returns-in_default
-returns-in_default c = search read_steps
+pub returns-in_err-q : goal.returns-in_err-q
+returns-in_err-q c = rw (err_is _ c.from_residual.ensures.1)
+    (search (read_steps, c.in_err-q.ensures, refused_is c.in_err-q.field-0.0))
 
 pub byte-requires : goal.byte-requires
 byte-requires c = search read_asked
 
-pub overflow_add-result : goal.overflow_add-result
-overflow_add-result c = search read_asked
+pub overflow_add-q : goal.overflow_add-q
+overflow_add-q c = search (read_asked, said_ok c.branch-q.ensures c.in_ok-q.is)
 
 pub returns-then-byte-eq-GREATER : goal.returns-then-byte-eq-GREATER
-returns-then-byte-eq-GREATER c = search read_steps
+returns-then-byte-eq-GREATER c = rw c.over_both.ensures (search (read_steps, said_ok c.branch-q.ensures c.in_ok-q.is))
 
 pub close_named-requires : goal.close_named-requires
-close_named-requires c = search read_asked
+close_named-requires c = search (read_asked, said_ok c.branch-q.ensures c.in_ok-q.is)
 
 pub shape_of-t : goal.shape_of-t
-shape_of-t c = search read_asked
+shape_of-t c = search (read_asked, said_ok c.branch-q.ensures c.in_ok-q.is)
 
 pub returns : goal.returns
 returns c = search read_steps

@@ -1,14 +1,18 @@
-use Rattle.identifier.proofs.ScriptSteps.{script_steps}
+use Rattle.jsx.specs.Unicode.{in_ranges, ordered_from}
+use Rattle.jsx.specs.Ranges.{continue_ranges}
+use borrow.Author.Rules.{rules}
+use Rattle.lex.proofs.Laws.{is_first, is_second}
+use Rattle.lex.proofs.TestSteps.{or_first, or_second}
 use Rattle.identifier.proofs.is_identifier_part_unicode.Goals as goal
 
 pub in_ranges-requires : goal.in_ranges-requires
-in_ranges-requires c = search script_steps
-
-pub returns-then-in_ranges : goal.returns-then-in_ranges
-returns-then-in_ranges c = search script_steps
+unfolding ordered_from
+in_ranges-requires c = search rules
 
 pub returns-then-c-eq-ZERO_WIDTH_NON_JOINER : goal.returns-then-c-eq-ZERO_WIDTH_NON_JOINER
-returns-then-c-eq-ZERO_WIDTH_NON_JOINER c = search script_steps
+unfolding continue_ranges in_ranges
+returns-then-c-eq-ZERO_WIDTH_NON_JOINER c = search (rules, or_first, or_second, is_first, is_second)
 
 pub returns-else-c-eq-ZERO_WIDTH_NON_JOINER : goal.returns-else-c-eq-ZERO_WIDTH_NON_JOINER
-returns-else-c-eq-ZERO_WIDTH_NON_JOINER c = search script_steps
+unfolding continue_ranges
+returns-else-c-eq-ZERO_WIDTH_NON_JOINER c = search (rules, or_second, is_second)

@@ -1,14 +1,16 @@
-use Rattle.identifier.proofs.ScriptSteps.{script_steps}
+use Rattle.jsx.specs.Unicode.{ordered_from}
+use Rattle.jsx.specs.Ranges.{start_ranges}
+use borrow.Author.Rules.{rules}
+use Rattle.identifier.proofs.ScriptSteps.{start_common}
 use Rattle.identifier.proofs.is_identifier_start_unicode.Goals as goal
 
-pub is_common-requires : goal.is_common-requires
-is_common-requires c = search script_steps
+pub in_ranges-requires : goal.in_ranges-requires
+unfolding ordered_from
+in_ranges-requires c = search rules
 
 pub returns-then-is_common : goal.returns-then-is_common
-returns-then-is_common c = search script_steps
+returns-then-is_common c = search (rules, start_common)
 
-pub is_in_start-requires : goal.is_in_start-requires
-is_in_start-requires c = search script_steps
-
-pub returns : goal.returns
-returns c = search script_steps
+pub returns-else-is_common : goal.returns-else-is_common
+unfolding start_ranges
+returns-else-is_common c = search rules

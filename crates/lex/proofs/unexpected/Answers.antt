@@ -1,9 +1,6 @@
 use Rattle.lex.proofs.Steps.{lex_steps}
 use Rattle.lex.proofs.unexpected.Goals as goal
 
-pub byte-b-requires : goal.byte-b-requires
-byte-b-requires c = search lex_steps
-
 pub returns-then-b-eq-END : goal.returns-then-b-eq-END
 returns-then-b-eq-END c = search lex_steps
 

@@ -1,8 +1,8 @@
 use Rattle.name.proofs.Labels.{kind_steps}
 use Rattle.name.proofs.name_kind.Goals as goal
 
-pub returns-then-dash-eq1 : goal.returns-then-dash-eq1
-returns-then-dash-eq1 c = search kind_steps
+pub returns-then-dash : goal.returns-then-dash
+returns-then-dash c = search kind_steps
 
 pub byte-requires : goal.byte-requires
 byte-requires c = search kind_steps

@@ -1,30 +1,26 @@
 use Rattle.name.proofs.NameSteps.{name_asked}
 use Rattle.name.proofs.PartSteps.{part_steps}
+use Rattle.lex.proofs.Results.{err_is, refused_is, said_ok}
 use Rattle.name.proofs.parse_dotted_part.Goals as goal
 
-pub parse_jsx_identifier-r-requires : goal.parse_jsx_identifier-r-requires
-parse_jsx_identifier-r-requires c = search name_asked
+pub parse_jsx_identifier-requires : goal.parse_jsx_identifier-requires
+parse_jsx_identifier-requires c = search name_asked
 
-pub enum_known-r : goal.enum_known-r
-enum_known-r c = search name_asked
-
-pub enum_told-1 : goal.enum_told-1
-enum_told-1 c = search name_asked
-
-pub returns-in_default : goal.returns-in_default
-returns-in_default c = search part_steps
+pub returns-in_err-e : goal.returns-in_err-e
+returns-in_err-e c = rw (err_is _ c.from_residual.ensures.1)
+    (search (part_steps, c.in_err-e.ensures, refused_is c.in_err-e.field-0.0))
 
 pub dashed-requires : goal.dashed-requires
-dashed-requires c = search name_asked
+dashed-requires c = search (name_asked, said_ok c.branch-e.ensures c.in_ok-e.is)
 
-pub returns-then-dashed-eq1 : goal.returns-then-dashed-eq1
-returns-then-dashed-eq1 c = search part_steps
+pub returns-then-dashed : goal.returns-then-dashed
+returns-then-dashed c = rw c.over.ensures (search (part_steps, said_ok c.branch-e.ensures c.in_ok-e.is))
 
 pub put_part-requires : goal.put_part-requires
-put_part-requires c = search name_asked
+put_part-requires c = search (name_asked, said_ok c.branch-e.ensures c.in_ok-e.is)
 
 pub shape_of-t : goal.shape_of-t
-shape_of-t c = search name_asked
+shape_of-t c = search (name_asked, said_ok c.branch-e.ensures c.in_ok-e.is)
 
 pub returns : goal.returns
-returns c = search part_steps
+returns c = search (part_steps, said_ok c.branch-e.ensures c.in_ok-e.is)

@@ -1,4 +1,5 @@
 use Rattle.name.proofs.MemberSteps.{member_asked, member_steps}
+use Rattle.lex.proofs.Results.{counted_ok, err_is, refused_is}
 use Rattle.name.proofs.parse_jsx_member_expression.Goals as goal
 
 pub inside-inside-requires : goal.inside-inside-requires
@@ -28,32 +29,27 @@ slice_bounds-parse_dotted_parts-end c = search member_asked
 pub behind-requires : goal.behind-requires
 behind-requires c = search member_asked
 
-pub parse_dotted_parts-r-requires : goal.parse_dotted_parts-r-requires
-parse_dotted_parts-r-requires c = search member_asked
+pub parse_dotted_parts-requires : goal.parse_dotted_parts-requires
+parse_dotted_parts-requires c = search member_asked
 
-pub enum_known-r : goal.enum_known-r
-enum_known-r c = search member_asked
+pub shape_of-t-in_err-z : goal.shape_of-t-in_err-z
+shape_of-t-in_err-z c = search member_asked
 
-pub enum_told-1 : goal.enum_told-1
-enum_told-1 c = search member_asked
-
-pub shape_of-t-in_default : goal.shape_of-t-in_default
-shape_of-t-in_default c = search member_asked
-
-pub returns-in_default : goal.returns-in_default
-returns-in_default c = search member_steps
+pub returns-in_err-z : goal.returns-in_err-z
+returns-in_err-z c = rw (err_is _ c.from_residual.ensures.1)
+    (search (member_steps, c.in_err-z.ensures, refused_is c.in_err-z.field-0.0))
 
 pub overflow_add-m : goal.overflow_add-m
-overflow_add-m c = search member_asked
+overflow_add-m c = search (member_asked, counted_ok c.branch-z.ensures c.in_ok-z.is)
 
 pub put_node-requires : goal.put_node-requires
-put_node-requires c = search member_asked
+put_node-requires c = search (member_asked, counted_ok c.branch-z.ensures c.in_ok-z.is)
 
 pub overflow_add-result : goal.overflow_add-result
-overflow_add-result c = search member_asked
+overflow_add-result c = search (member_asked, counted_ok c.branch-z.ensures c.in_ok-z.is)
 
 pub shape_of-t : goal.shape_of-t
-shape_of-t c = search member_asked
+shape_of-t c = search (member_asked, counted_ok c.branch-z.ensures c.in_ok-z.is)
 
 pub returns : goal.returns
-returns c = search member_steps
+returns c = search (member_steps, counted_ok c.branch-z.ensures c.in_ok-z.is)

@@ -1,4 +1,5 @@
 use Rattle.name.proofs.NamespacedSteps.{namespaced_asked, namespaced_steps}
+use Rattle.lex.proofs.Results.{counted_ok, err_is, refused_is}
 use Rattle.name.proofs.parse_jsx_namespaced_name.Goals as goal
 
 pub inside-inside-requires : goal.inside-inside-requires
@@ -16,32 +17,27 @@ behind-requires c = search namespaced_asked
 pub overflow_add-first : goal.overflow_add-first
 overflow_add-first c = search namespaced_asked
 
-pub parse_next_part-r-requires : goal.parse_next_part-r-requires
-parse_next_part-r-requires c = search namespaced_asked
+pub parse_next_part-requires : goal.parse_next_part-requires
+parse_next_part-requires c = search namespaced_asked
 
-pub enum_known-r : goal.enum_known-r
-enum_known-r c = search namespaced_asked
+pub shape_of-t-in_err-z : goal.shape_of-t-in_err-z
+shape_of-t-in_err-z c = search namespaced_asked
 
-pub enum_told-1 : goal.enum_told-1
-enum_told-1 c = search namespaced_asked
-
-pub shape_of-t-in_default : goal.shape_of-t-in_default
-shape_of-t-in_default c = search namespaced_asked
-
-pub returns-in_default : goal.returns-in_default
-returns-in_default c = search namespaced_steps
+pub returns-in_err-z : goal.returns-in_err-z
+returns-in_err-z c = rw (err_is _ c.from_residual.ensures.1)
+    (search (namespaced_steps, c.in_err-z.ensures, refused_is c.in_err-z.field-0.0))
 
 pub overflow_add-k : goal.overflow_add-k
-overflow_add-k c = search namespaced_asked
+overflow_add-k c = search (namespaced_asked, counted_ok c.branch-z.ensures c.in_ok-z.is)
 
 pub put_node-requires : goal.put_node-requires
-put_node-requires c = search namespaced_asked
+put_node-requires c = search (namespaced_asked, counted_ok c.branch-z.ensures c.in_ok-z.is)
 
 pub overflow_add-result : goal.overflow_add-result
-overflow_add-result c = search namespaced_asked
+overflow_add-result c = search (namespaced_asked, counted_ok c.branch-z.ensures c.in_ok-z.is)
 
 pub shape_of-t : goal.shape_of-t
-shape_of-t c = search namespaced_asked
+shape_of-t c = search (namespaced_asked, counted_ok c.branch-z.ensures c.in_ok-z.is)
 
 pub returns : goal.returns
-returns c = search namespaced_steps
+returns c = search (namespaced_steps, counted_ok c.branch-z.ensures c.in_ok-z.is)

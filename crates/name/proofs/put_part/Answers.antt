@@ -4,8 +4,8 @@ use Rattle.name.proofs.put_part.Goals as goal
 pub returns-then-t-eq0 : goal.returns-then-t-eq0
 returns-then-t-eq0 c = search writer_steps
 
-pub dashed-extra-requires : goal.dashed-extra-requires
-dashed-extra-requires c = search writer_asked
+pub dashed-dash-requires : goal.dashed-dash-requires
+dashed-dash-requires c = search writer_asked
 
 pub put_node_at-requires : goal.put_node_at-requires
 put_node_at-requires c = search writer_asked

@@ -1,45 +1,9 @@
--- Each test of the code is one of the record; the two words read are its start and its end.
-use Rattle.part.proofs.Parts.{part_steps}
+-- The part that is there, from where it is.
+use Rattle.part.proofs.Parts.{answers_placed}
 use Rattle.part.proofs.record_bytes.Goals as goal
 
-pub no_bytes-requires : goal.no_bytes-requires
-no_bytes-requires c = search part_steps
-
-pub returns-then-count-number : goal.returns-then-count-number
-returns-then-count-number c = search part_steps
-
-pub no_bytes-requires-then-t-number : goal.no_bytes-requires-then-t-number
-no_bytes-requires-then-t-number c = search part_steps
-
-pub returns-then-t-number : goal.returns-then-t-number
-returns-then-t-number c = search part_steps
-
-pub overflow_mul-number : goal.overflow_mul-number
-overflow_mul-number c = search part_steps
-
-pub overflow_add-number : goal.overflow_add-number
-overflow_add-number c = search part_steps
-
-pub table_word-start-requires : goal.table_word-start-requires
-table_word-start-requires c = search part_steps
-
-pub overflow_cast-start : goal.overflow_cast-start
-overflow_cast-start c = search part_steps
-
-pub overflow_mul-number-2 : goal.overflow_mul-number-2
-overflow_mul-number-2 c = search part_steps
-
-pub overflow_add-number-2 : goal.overflow_add-number-2
-overflow_add-number-2 c = search part_steps
-
-pub table_word-end-requires : goal.table_word-end-requires
-table_word-end-requires c = search part_steps
-
-pub overflow_cast-end : goal.overflow_cast-end
-overflow_cast-end c = search part_steps
-
-pub span_bytes-requires : goal.span_bytes-requires
-span_bytes-requires c = search part_steps
+pub bytes_at-requires : goal.bytes_at-requires
+bytes_at-requires c = c.record.ensures.within
 
 pub returns : goal.returns
-returns c = search part_steps
+returns c = answers_placed c.record.ensures c.bytes_at.ensures

@@ -1,4 +1,5 @@
 use Rattle.row.proofs.ShutSteps.{shut_steps, shut_asked}
+use Rattle.lex.proofs.Results.{counted_ok, err_is, refused_is}
 use Rattle.row.proofs.shut.Goals as goal
 
 pub overflow_add-v : goal.overflow_add-v
@@ -28,35 +29,30 @@ inside-requires c = search shut_asked
 pub behind-requires : goal.behind-requires
 behind-requires c = search shut_asked
 
-pub close-r-requires : goal.close-r-requires
-close-r-requires c = search shut_asked
+pub close-requires : goal.close-requires
+close-requires c = search shut_asked
 
-pub enum_known-r : goal.enum_known-r
-enum_known-r c = search shut_asked
+pub shape_of-t-in_err-z : goal.shape_of-t-in_err-z
+shape_of-t-in_err-z c = search shut_asked
 
-pub enum_told-1 : goal.enum_told-1
-enum_told-1 c = search shut_asked
-
-pub shape_of-t-in_default : goal.shape_of-t-in_default
-shape_of-t-in_default c = search shut_asked
-
-pub returns-in_default : goal.returns-in_default
-returns-in_default c = search shut_steps
+pub returns-in_err-z : goal.returns-in_err-z
+returns-in_err-z c = rw (err_is _ c.from_residual.ensures.1)
+    (search (shut_steps, c.in_err-z.ensures, refused_is c.in_err-z.field-0.0))
 
 pub overflow_add-v-2 : goal.overflow_add-v-2
-overflow_add-v-2 c = search shut_asked
+overflow_add-v-2 c = search (shut_asked, counted_ok c.branch-z.ensures c.in_ok-z.is)
 
 pub put_node-requires : goal.put_node-requires
-put_node-requires c = search shut_asked
+put_node-requires c = search (shut_asked, counted_ok c.branch-z.ensures c.in_ok-z.is)
 
 pub overflow_add-result : goal.overflow_add-result
-overflow_add-result c = search shut_asked
+overflow_add-result c = search (shut_asked, counted_ok c.branch-z.ensures c.in_ok-z.is)
 
 pub overflow_add-result-2 : goal.overflow_add-result-2
-overflow_add-result-2 c = search shut_asked
+overflow_add-result-2 c = search (shut_asked, counted_ok c.branch-z.ensures c.in_ok-z.is)
 
 pub shape_of-t : goal.shape_of-t
-shape_of-t c = search shut_asked
+shape_of-t c = search (shut_asked, counted_ok c.branch-z.ensures c.in_ok-z.is)
 
 pub returns : goal.returns
-returns c = search shut_steps
+returns c = search (shut_steps, counted_ok c.branch-z.ensures c.in_ok-z.is)

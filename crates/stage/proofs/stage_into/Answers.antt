@@ -1,71 +1,96 @@
 use Rattle.stage.proofs.IntoSteps.{stage_steps, into_asked}
+use Rattle.lex.proofs.Results.{counted_ok, err_is, refused_is, said_ok}
 use Rattle.stage.proofs.stage_into.Goals as goal
 
-pub skip_blanks-r-requires : goal.skip_blanks-r-requires
-skip_blanks-r-requires c = search into_asked
+pub skip_blanks-requires : goal.skip_blanks-requires
+skip_blanks-requires c = search into_asked
 
-pub enum_known-r : goal.enum_known-r
-enum_known-r c = search into_asked
-
-pub enum_told-1 : goal.enum_told-1
-enum_told-1 c = search into_asked
-
-pub returns-in_default : goal.returns-in_default
-returns-in_default c = search stage_steps
+pub returns-in_err-p : goal.returns-in_err-p
+returns-in_err-p c = rw (err_is _ c.from_residual.ensures.1)
+    (search (stage_steps, c.in_err-p.ensures, refused_is c.in_err-p.field-0.0))
 
 pub byte-requires : goal.byte-requires
-byte-requires c = search into_asked
+byte-requires c = search (into_asked, said_ok c.branch-p.ensures c.in_ok-p.is)
 
 pub unexpected-requires : goal.unexpected-requires
-unexpected-requires c = search into_asked
+unexpected-requires c = search (into_asked, said_ok c.branch-p.ensures c.in_ok-p.is)
 
 pub returns-then-byte-ne-LESS : goal.returns-then-byte-ne-LESS
-returns-then-byte-ne-LESS c = search stage_steps
+returns-then-byte-ne-LESS c = search (stage_steps, said_ok c.branch-p.ensures c.in_ok-p.is)
 
 pub whole-requires : goal.whole-requires
-whole-requires c = search into_asked
+whole-requires c = search (into_asked, said_ok c.branch-p.ensures c.in_ok-p.is)
 
-pub parse_jsx_element-r2-requires : goal.parse_jsx_element-r2-requires
-parse_jsx_element-r2-requires c = search into_asked
+pub parse_jsx_element-requires : goal.parse_jsx_element-requires
+parse_jsx_element-requires c = search (into_asked, said_ok c.branch-p.ensures c.in_ok-p.is)
 
-pub enum_known-r2 : goal.enum_known-r2
-enum_known-r2 c = search into_asked
+pub shape_of-t-in_err-e : goal.shape_of-t-in_err-e
+shape_of-t-in_err-e c = search (into_asked, said_ok c.branch-p.ensures c.in_ok-p.is)
 
-pub enum_told-in_default-r2 : goal.enum_told-in_default-r2
-enum_told-in_default-r2 c = search into_asked
+pub returns-in_err-e : goal.returns-in_err-e
+returns-in_err-e c = rw (err_is _ c.from_residual-in_err-e.ensures.1)
+    (search (stage_steps, c.in_err-e.ensures, refused_is c.in_err-e.field-0.0, said_ok c.branch-p.ensures c.in_ok-p.is))
 
-pub shape_of-t-in_default-r2 : goal.shape_of-t-in_default-r2
-shape_of-t-in_default-r2 c = search into_asked
+pub skip_blanks-requires-2 : goal.skip_blanks-requires-2
+skip_blanks-requires-2 c = search (
+  into_asked,
+  said_ok c.branch-p.ensures c.in_ok-p.is,
+  counted_ok c.branch-e.ensures c.in_ok-e.is,
+)
 
-pub returns-in_default-r2 : goal.returns-in_default-r2
-returns-in_default-r2 c = search stage_steps
+pub shape_of-t-in_err-z : goal.shape_of-t-in_err-z
+shape_of-t-in_err-z c = search (
+  into_asked,
+  said_ok c.branch-p.ensures c.in_ok-p.is,
+  counted_ok c.branch-e.ensures c.in_ok-e.is,
+)
 
-pub skip_blanks-r3-requires : goal.skip_blanks-r3-requires
-skip_blanks-r3-requires c = search into_asked
-
-pub enum_known-r3 : goal.enum_known-r3
-enum_known-r3 c = search into_asked
-
-pub enum_told-in_default-r3 : goal.enum_told-in_default-r3
-enum_told-in_default-r3 c = search into_asked
-
-pub shape_of-t-in_default-r3 : goal.shape_of-t-in_default-r3
-shape_of-t-in_default-r3 c = search into_asked
-
-pub returns-in_default-r3 : goal.returns-in_default-r3
-returns-in_default-r3 c = search stage_steps
+pub returns-in_err-z : goal.returns-in_err-z
+returns-in_err-z c = rw (err_is _ c.from_residual-in_err-z.ensures.1)
+    (search (
+      stage_steps,
+      c.in_err-z.ensures,
+      refused_is c.in_err-z.field-0.0,
+      said_ok c.branch-p.ensures c.in_ok-p.is,
+      counted_ok c.branch-e.ensures c.in_ok-e.is,
+    ))
 
 pub byte-requires-2 : goal.byte-requires-2
-byte-requires-2 c = search into_asked
+byte-requires-2 c = search (
+  into_asked,
+  said_ok c.branch-p.ensures c.in_ok-p.is,
+  counted_ok c.branch-e.ensures c.in_ok-e.is,
+  said_ok c.branch-z.ensures c.in_ok-z.is,
+)
 
 pub shape_of-t-then-byte-eq-END : goal.shape_of-t-then-byte-eq-END
-shape_of-t-then-byte-eq-END c = search into_asked
+shape_of-t-then-byte-eq-END c = search (
+  into_asked,
+  said_ok c.branch-p.ensures c.in_ok-p.is,
+  counted_ok c.branch-e.ensures c.in_ok-e.is,
+  said_ok c.branch-z.ensures c.in_ok-z.is,
+)
 
 pub returns-then-byte-eq-END : goal.returns-then-byte-eq-END
-returns-then-byte-eq-END c = search stage_steps
+returns-then-byte-eq-END c = search (
+  stage_steps,
+  said_ok c.branch-p.ensures c.in_ok-p.is,
+  counted_ok c.branch-e.ensures c.in_ok-e.is,
+  said_ok c.branch-z.ensures c.in_ok-z.is,
+)
 
 pub shape_of-t : goal.shape_of-t
-shape_of-t c = search into_asked
+shape_of-t c = search (
+  into_asked,
+  said_ok c.branch-p.ensures c.in_ok-p.is,
+  counted_ok c.branch-e.ensures c.in_ok-e.is,
+  said_ok c.branch-z.ensures c.in_ok-z.is,
+)
 
 pub returns : goal.returns
-returns c = search stage_steps
+returns c = rw c.at.ensures (search (
+  stage_steps,
+  said_ok c.branch-p.ensures c.in_ok-p.is,
+  counted_ok c.branch-e.ensures c.in_ok-e.is,
+  said_ok c.branch-z.ensures c.in_ok-z.is,
+))

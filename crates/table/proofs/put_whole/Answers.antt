@@ -1,6 +1,6 @@
+use Rattle.table.proofs.Seats.{parent_fits, whole_stored}
 use native.Mathlib.Omega.{arith}
 use lib.ListN.{length-set}
-use Rattle.table.proofs.Seats.{parent_fits, whole_stored}
 use Rattle.table.proofs.put_whole.Goals as goal
 
 pub bounds-t-1 : goal.bounds-t-1
@@ -9,8 +9,8 @@ bounds-t-1 c = simp length-set (omega arith)
 pub bounds-t-2 : goal.bounds-t-2
 bounds-t-2 c = simp length-set (omega arith)
 
-pub overflow_cast-t-4 : goal.overflow_cast-t-4
-overflow_cast-t-4 c = search parent_fits
+pub overflow_cast-t-3 : goal.overflow_cast-t-3
+overflow_cast-t-3 c = search parent_fits
 
 pub bounds-t-3 : goal.bounds-t-3
 bounds-t-3 c = simp length-set (omega arith)

@@ -1,38 +1,33 @@
 use Rattle.tag.proofs.TokenSteps.{sibling_steps, token_asked}
+use Rattle.lex.proofs.Results.{err_is, refused_is, said_ok}
 use Rattle.tag.proofs.no_sibling.Goals as goal
+use Rattle.tag.proofs.no_sibling.Goals.{then-two_at-via-then-two_at, then-two_at-via-else-two_at+then-two_at-2}
 
-pub skip_blanks-r-requires : goal.skip_blanks-r-requires
-skip_blanks-r-requires c = search token_asked
+pub skip_blanks-requires : goal.skip_blanks-requires
+skip_blanks-requires c = search token_asked
 
-pub enum_known-r : goal.enum_known-r
-enum_known-r c = search token_asked
-
-pub enum_told-1 : goal.enum_told-1
-enum_told-1 c = search token_asked
-
-pub returns-in_default : goal.returns-in_default
-returns-in_default c = search sibling_steps
+pub returns-in_err-p : goal.returns-in_err-p
+returns-in_err-p c = rw (err_is _ c.from_residual.ensures.1)
+    (search (sibling_steps, c.in_err-p.ensures, refused_is c.in_err-p.field-0.0))
 
 pub byte-requires : goal.byte-requires
 byte-requires c = search token_asked
 
 pub returns-then-byte-ne-LESS : goal.returns-then-byte-ne-LESS
-returns-then-byte-ne-LESS c = search sibling_steps
+returns-then-byte-ne-LESS c = search (sibling_steps, said_ok c.branch-p.ensures c.in_ok-p.is)
 
 pub two_at-requires : goal.two_at-requires
-two_at-requires c = search token_asked
+two_at-requires c = search (token_asked, said_ok c.branch-p.ensures c.in_ok-p.is)
 
 pub returns-then-two_at : goal.returns-then-two_at
-returns-then-two_at c = search sibling_steps
-
-pub two_at-requires-2 : goal.two_at-requires-2
-two_at-requires-2 c = search token_asked
-
-pub returns-then-two_at-2 : goal.returns-then-two_at-2
-returns-then-two_at-2 c = search sibling_steps
-
-pub overflow_add-result : goal.overflow_add-result
-overflow_add-result c = search token_asked
+returns-then-two_at c =
+    let got = said_ok c.branch-p.ensures c.in_ok-p.is in
+    elim c.then-two_at.branch [
+      | then-two_at-via-then-two_at w ↦ rw c.at.ensures (search (sibling_steps, got, w.if-two_at.true))
+      | then-two_at-via-else-two_at+then-two_at-2 w ↦
+          let other = w.two_at-else-two_at.ensures in
+          rw c.at.ensures (search (sibling_steps, got, w.if-two_at.false, other, w.if-two_at-2.true))
+    ]
 
 pub returns : goal.returns
-returns c = search sibling_steps
+returns c = search (sibling_steps, said_ok c.branch-p.ensures c.in_ok-p.is)

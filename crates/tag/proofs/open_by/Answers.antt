@@ -1,20 +1,16 @@
 use Rattle.tag.proofs.TokenSteps.{token_asked, token_steps}
+use Rattle.lex.proofs.Results.{err_is, refused_is, said_ok}
 use Rattle.tag.proofs.open_by.Goals as goal
 
-pub expect-r-requires : goal.expect-r-requires
-expect-r-requires c = search token_asked
+pub expect-requires : goal.expect-requires
+expect-requires c = search token_asked
 
-pub enum_known-r : goal.enum_known-r
-enum_known-r c = search token_asked
-
-pub enum_told-1 : goal.enum_told-1
-enum_told-1 c = search token_asked
-
-pub returns-in_default : goal.returns-in_default
-returns-in_default c = search token_steps
+pub returns-in_err-p : goal.returns-in_err-p
+returns-in_err-p c = rw (err_is _ c.from_residual.ensures.1)
+    (search (token_steps, c.in_err-p.ensures, refused_is c.in_err-p.field-0.0))
 
 pub skip_blanks-requires : goal.skip_blanks-requires
-skip_blanks-requires c = search token_asked
+skip_blanks-requires c = search (token_asked, said_ok c.branch-p.ensures c.in_ok-p.is)
 
 pub returns : goal.returns
-returns c = search token_steps
+returns c = search (token_steps, said_ok c.branch-p.ensures c.in_ok-p.is)

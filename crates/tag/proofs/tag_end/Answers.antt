@@ -1,4 +1,5 @@
 use Rattle.tag.proofs.TokenSteps.{end_asked, end_steps}
+use Rattle.lex.proofs.Results.{err_is, refused_is, said_ok}
 use Rattle.tag.proofs.tag_end.Goals as goal
 
 pub byte-b-requires : goal.byte-b-requires
@@ -19,17 +20,12 @@ returns-then-b-ne-SLASH c = search end_steps
 pub overflow_add-at : goal.overflow_add-at
 overflow_add-at c = search end_asked
 
-pub close_by-r-requires : goal.close_by-r-requires
-close_by-r-requires c = search end_asked
+pub close_by-requires : goal.close_by-requires
+close_by-requires c = search end_asked
 
-pub enum_known-r : goal.enum_known-r
-enum_known-r c = search end_asked
-
-pub enum_told-1 : goal.enum_told-1
-enum_told-1 c = search end_asked
-
-pub returns-in_default : goal.returns-in_default
-returns-in_default c = search end_steps
+pub returns-in_err-p : goal.returns-in_err-p
+returns-in_err-p c = rw (err_is _ c.from_residual.ensures.1)
+    (search (end_steps, c.in_err-p.ensures, refused_is c.in_err-p.field-0.0))
 
 pub returns : goal.returns
-returns c = search end_steps
+returns c = search (end_steps, said_ok c.branch-p.ensures c.in_ok-p.is)

@@ -1,8 +1,9 @@
 use Rattle.text.proofs.TestSteps.{test_steps}
 use Rattle.text.proofs.in_text.Goals as goal
+use Rattle.text.proofs.in_text.Goals.{in-60, in_default}
 
-pub returns-in-60 : goal.returns-in-60
-returns-in-60 c = search test_steps
-
-pub returns-in_default : goal.returns-in_default
-returns-in_default c = search test_steps
+pub returns : goal.returns
+returns c = elim c.match-matches.branch [
+  | in-60 w ↦ rw w.matches-is (search test_steps)
+  | in_default w ↦ rw w.matches-is (search test_steps)
+]

@@ -1,23 +1,19 @@
 use Rattle.token.proofs.BetweenSteps.{attribute_steps, between_asked}
+use Rattle.lex.proofs.Results.{err_is, refused_is, said_ok}
 use Rattle.token.proofs.attribute_at.Goals as goal
 
-pub skip_blanks-r-requires : goal.skip_blanks-r-requires
-skip_blanks-r-requires c = search between_asked
+pub skip_blanks-requires : goal.skip_blanks-requires
+skip_blanks-requires c = search between_asked
 
-pub enum_known-r : goal.enum_known-r
-enum_known-r c = search between_asked
-
-pub enum_told-1 : goal.enum_told-1
-enum_told-1 c = search between_asked
-
-pub returns-in_default : goal.returns-in_default
-returns-in_default c = search attribute_steps
+pub returns-in_err-q : goal.returns-in_err-q
+returns-in_err-q c = rw (err_is _ c.from_residual.ensures.1)
+    (search (attribute_steps, c.in_err-q.ensures, refused_is c.in_err-q.field-0.0))
 
 pub byte-b-requires : goal.byte-b-requires
-byte-b-requires c = search between_asked
+byte-b-requires c = search (between_asked, said_ok c.branch-q.ensures c.in_ok-q.is)
 
 pub returns-in-47 : goal.returns-in-47
-returns-in-47 c = search attribute_steps
+returns-in-47 c = search (attribute_steps, said_ok c.branch-q.ensures c.in_ok-q.is)
 
-pub returns-in_default-b : goal.returns-in_default-b
-returns-in_default-b c = search attribute_steps
+pub returns-in_default : goal.returns-in_default
+returns-in_default c = search (attribute_steps, said_ok c.branch-q.ensures c.in_ok-q.is)

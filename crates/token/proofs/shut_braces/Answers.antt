@@ -1,29 +1,25 @@
 use Rattle.token.proofs.BetweenSteps.{braces_steps, between_asked}
+use Rattle.lex.proofs.Results.{err_is, refused_is, said_ok}
 use Rattle.token.proofs.shut_braces.Goals as goal
 
-pub skip_blanks-r-requires : goal.skip_blanks-r-requires
-skip_blanks-r-requires c = search between_asked
+pub skip_blanks-requires : goal.skip_blanks-requires
+skip_blanks-requires c = search between_asked
 
-pub enum_known-r : goal.enum_known-r
-enum_known-r c = search between_asked
-
-pub enum_told-1 : goal.enum_told-1
-enum_told-1 c = search between_asked
-
-pub returns-in_default : goal.returns-in_default
-returns-in_default c = search braces_steps
+pub returns-in_err-q : goal.returns-in_err-q
+returns-in_err-q c = rw (err_is _ c.from_residual.ensures.1)
+    (search (braces_steps, c.in_err-q.ensures, refused_is c.in_err-q.field-0.0))
 
 pub byte-requires : goal.byte-requires
-byte-requires c = search between_asked
+byte-requires c = search (between_asked, said_ok c.branch-q.ensures c.in_ok-q.is)
 
-pub overflow_add-result : goal.overflow_add-result
-overflow_add-result c = search between_asked
+pub overflow_add-q : goal.overflow_add-q
+overflow_add-q c = search (between_asked, said_ok c.branch-q.ensures c.in_ok-q.is)
 
 pub returns-then-byte-eq-COMMA : goal.returns-then-byte-eq-COMMA
-returns-then-byte-eq-COMMA c = search braces_steps
+returns-then-byte-eq-COMMA c = search (braces_steps, said_ok c.branch-q.ensures c.in_ok-q.is)
 
 pub expect-requires : goal.expect-requires
-expect-requires c = search between_asked
+expect-requires c = search (between_asked, said_ok c.branch-q.ensures c.in_ok-q.is)
 
 pub returns : goal.returns
-returns c = search braces_steps
+returns c = search (braces_steps, said_ok c.branch-q.ensures c.in_ok-q.is)

@@ -1,10 +1,6 @@
 use Rattle.word.specs.Here.{name_byte}
 use Rattle.lex.proofs.TestSteps.{test_steps}
-use Rattle.word.proofs.Asked.{asked}
 use Rattle.word.proofs.in_name.Goals as goal
-
-pub in_word-requires : goal.in_word-requires
-in_word-requires c = search asked
 
 pub returns-then-in_word : goal.returns-then-in_word
 unfolding name_byte

@@ -1,10 +1,6 @@
-use Rattle.word.proofs.Asked.{asked}
 use Rattle.jsx.specs.Byte.{digit}
 use Rattle.lex.proofs.TestSteps.{test_steps}
 use Rattle.word.proofs.is_digit.Goals as goal
-
-pub within-requires : goal.within-requires
-within-requires c = search asked
 
 pub returns : goal.returns
 unfolding digit

@@ -1,13 +1,6 @@
-use Rattle.word.proofs.Asked.{asked}
 use Rattle.jsx.specs.Byte.{letter}
 use Rattle.lex.proofs.TestSteps.{test_steps}
 use Rattle.word.proofs.is_letter.Goals as goal
-
-pub within-requires : goal.within-requires
-within-requires c = search asked
-
-pub within-requires-else-within : goal.within-requires-else-within
-within-requires-else-within c = search asked
 
 pub returns-then-within : goal.returns-then-within
 unfolding letter

@@ -1,0 +1,5 @@
+use Rattle.abi.proofs.Steps.{says_placed}
+use Rattle.abi.proofs.lorikvar_span_bytes.Goals as goal
+
+pub returns : goal.returns
+returns c = says_placed c.span.ensures c.say_part.ensures

@@ -1,2 +1,0 @@
--- A law for each step of a line.
-pub mod Steps

@@ -1,0 +1,9 @@
+use mathlib.Core.Path.{◌≡◌}
+use lib.ListN.{take}
+use Rattle.std.specs.Prelude.{map}
+use Rattle.line.specs.Fit.{with_fitting}
+use Rattle.line.specs.Shown.{visible}
+use Rattle.line.proofs.line.Line.source.Given as goal
+
+abbrev pub invariant-loop-b : goal.invariant-loop-b
+invariant-loop-b l = l.self ≡ with_fitting l.initial.self (map visible (take l.b-index l.part))

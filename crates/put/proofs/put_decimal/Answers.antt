@@ -1,5 +1,0 @@
-use Rattle.put.proofs.Steps.{number_steps}
-use Rattle.put.proofs.put_decimal.Goals as goal
-
-pub returns : goal.returns
-returns c = search number_steps

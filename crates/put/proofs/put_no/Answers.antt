@@ -1,5 +1,0 @@
-use Rattle.put.proofs.Steps.{first_line_steps}
-use Rattle.put.proofs.put_no.Goals as goal
-
-pub returns : goal.returns
-returns c = search first_line_steps
