@@ -1,21 +1,23 @@
 -- Blanks and comments, one by one: what each need of their readers follows from.
 use mathlib.Core.Path.{◌≡◌, refl, sym, ap, ◌∙◌}
 use mathlib.Core.Bool.{Bool, true, false, not}
-use mathlib.Core.List.{List}
-use Rattle.std.specs.Prelude.{Option, None, Some}
+use mathlib.Core.List.{List, [], ◌∷◌}
+use Rattle.std.specs.Prelude.{Option, None, Some, Result, Ok, Err}
 use Prim.Native.Nat.{ℕ, suc, ◌+◌, ◌-◌, ◌*◌, ◌^◌, ◌≤◌, ◌<◌}
 use Prim.Native.Char.{code}
 use native.Mathlib.Omega.{arith}
 use lib.Dec.{ltb}
 use lib.ListN.{length, get_or-eq_default}
-use borrow.Author.Tests.{ltb-true, not-false}
+use borrow.Author.Tests.{ltb-true, not-true}
 use Rattle.rules.specs.Forest.{nil, byte}
-use Rattle.rules.specs.Parse.{pick, byte_at, code_at, read_at}
+use Rattle.rules.specs.Parse.{pick, byte_at, code_at, opens, read_at}
 use Rattle.rules.proofs.Run.{never, both}
+use Rattle.jsx.specs.Refusal.{comment_never_closed}
 use Rattle.jsx.specs.Byte.{is, ◌or◌, ◌‥◌}
 use Rattle.jsx.specs.Blank.{blank_char, comment, line_comment, blank, blanks, pass}
 use Rattle.lex.specs.Contract.{nothing, Leaf, Past}
-use Rattle.lex.specs.Answer.{Ans, Got, No}
+use Rattle.lex.specs.Answer.{Ans, Got, No, said}
+use Rattle.lex.specs.declared.refusal.Refusal.{Refusal}
 use Rattle.lex.proofs.Results.{results}
 use Rattle.lex.proofs.Laws as Lex
 use Rattle.lex.proofs.Laws.{before_end}
@@ -24,7 +26,7 @@ use Rattle.character.specs.Width.{width_of}
 use Rattle.character.proofs.CodeSteps.{code_alone}
 use Rattle.character.proofs.WidthSteps.{width_one}
 use Rattle.character.proofs.Read.{character_inside, character_wide}
-use Rattle.blank.specs.Here.{blank_byte, blank_width}
+use Rattle.blank.specs.Here.{blank_byte, blank_width, stopped, NeverClosed}
 use Rattle.blank.proofs.Laws
 
 -- ---- a blank here
@@ -110,8 +112,8 @@ module _ {s : List ℕ} {at p : ℕ} (v : Turns s blank 0 at p) where
 
   module _ {b : ℕ} (y : b ≡ byte_at s p) where
     -- A byte that is a blank by itself.
-    pub byte_goes_on : {t : Bool} → t ≡ blank_byte b → not t ≡ false → Turns s blank 0 at (p + 1)
-    byte_goes_on {t} i x = goes_on (alone s p y i (not-false t x))
+    pub byte_goes_on : {t : Bool} → t ≡ blank_byte b → t ≡ true → Turns s blank 0 at (p + 1)
+    byte_goes_on {t} i x = goes_on (alone s p y i x)
 
     module _ (x : b ≡ code "/" → ⊥) where
       -- A character of ASCII behind the space, and no `/`.
@@ -141,8 +143,8 @@ module _ {s : List ℕ} {at p : ℕ} (v : Turns s blank 0 at p) where
       alone_stops z w = Laws.blanks_end v (Laws.blank_slash s (suc (length s)) 0 p other slash z w)
 
       -- A `/` alone, by one test of what stands behind it.
-      pub slash_stops : {t : Bool} → t ≡ (is "*" or is "/") c → t ≡ false → Leaf nothing (Got p 0) s blanks at 0
-      slash_stops i z = let k = neither (is "*" c) (is "/" c) (sym i ∙ z) in
+      pub slash_stops : {t : Bool} → t ≡ (is "*" or is "/") c → not t ≡ true → Leaf nothing (Got p 0) s blanks at 0
+      slash_stops {t} i z = let k = neither (is "*" c) (is "/" c) (sym i ∙ not-true t z) in
           alone_stops (ap (is "*") (sym y₂) ∙ k.0) (ap (is "/") (sym y₂) ∙ k.1)
         where
           neither : (f g : Bool) → pick f true g ≡ false → (f ≡ false) × (g ≡ false)
@@ -175,6 +177,36 @@ module _ {s : List ℕ} {at p : ℕ} (v : Turns s blank 0 at p) where
           comment_goes_on h =
               let f = l.far _ _ h in
               turns_more v (begins ∙ Lex.leaf_got Laws.goes_comment l h) (omega arith) f.1
+
+-- ---- where a skip stops
+
+module _ {s : List ℕ} {at p : ℕ} (v : Turns s blank 0 at p) {b : ℕ} (y : b ≡ byte_at s p) where
+  -- No blank, and no comment.
+  pub stopped_here : (b ≡ code "/" → ⊥) → {w : Option ℕ} → w ≡ blank_width s p → w ≡ None
+      → Leaf nothing (stopped s p) s blanks at 0
+  stopped_here x i z = rw (Lex.opens_no s (code "*" ∷ []) p (code "/") (Lex.byte_not y x)) (blanks_stop v y x i z)
+
+  module _ (x : b ≡ code "/") {c : ℕ} (y₂ : c ≡ byte_at s (p + 1)) where
+    opened : opens s (code "/" ∷ code "*" ∷ []) p ≡ is "*" (byte_at s (p + 1))
+    opened =
+        Lex.opens_yes s (code "*" ∷ []) p (code "/") (Lex.byte_is y x) ∙ Lex.opens_one s (p + 1) (code "*")
+
+    -- A `/` alone.
+    pub stopped_slash : (c ≡ code "/" → ⊥) → (c ≡ code "*" → ⊥) → Leaf nothing (stopped s p) s blanks at 0
+    stopped_slash w k = rw (opened ∙ Lex.byte_not y₂ k) (slash_ends v y x y₂ w k)
+
+    -- A comment that is never closed.
+    pub stopped_open : (c ≡ code "/" → ⊥) → c ≡ code "*" → {r : Result ℕ Refusal} → Leaf nothing (said r) s comment p 4
+        → NeverClosed p r
+        → {e : Refusal} → r ≡ Err e → Leaf nothing (stopped s p) s blanks at 0
+    stopped_open w k {r} l o {e} h =
+        let f : said r ≡ No comment_never_closed p p 0 0 = of r o h in
+        rw (opened ∙ Lex.byte_is y₂ k, sym f) (comment_stops v y x y₂ w k l f)
+      where
+        of : (r : Result ℕ Refusal) → NeverClosed p r → {e : Refusal} → r ≡ Err e
+            → said r ≡ No comment_never_closed p p 0 0
+        of (Ok q) o h = cc
+        of (Err e) o h = o
 
 -- ---- a byte and blanks
 
@@ -210,8 +242,8 @@ pub ruleset blank_steps = (
   blank_goes_on,
   slash_stops,
   line_goes_on,
-  slash_ends,
-  comment_stops,
   comment_goes_on,
   pass_is,
 )
+
+pub ruleset stop_steps = (blank_steps, stopped_here, stopped_slash, stopped_open)

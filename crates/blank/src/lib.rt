@@ -7,7 +7,7 @@ ghost use Rattle.jsx.specs.Byte.{is, ◌or◌, ◌‥◌};
 ghost use Rattle.jsx.specs.Blank.{blank_char, line_terminator, comment, line_comment, blanks, pass as pass_rule};
 ghost use Rattle.lex.specs.Answer.{said};
 ghost use Rattle.lex.specs.Contract.{Leaf, Past, nothing};
-ghost use Rattle.blank.specs.Here.{blank_byte, blank_width, line_ends, line_stop};
+ghost use Rattle.blank.specs.Here.{blank_byte, blank_width, line_ends, line_stop, stopped, NeverClosed};
 
 use lanes::sought::{Beyond, Only, Sought};
 use lex::bytes::{CR, END, LF, SLASH, SPACE, STAR, TAB};
@@ -72,7 +72,8 @@ fn line_ends(s: &[u8], at: usize) -> bool
 // Past the `/* .. */` that begins here; 17 at its first byte where it is never closed.
 pub fn skip_comment(s: &[u8], at: usize) -> Result<usize, Refusal>
     requires { at + 2 ≤ length s.now }
-    ensures { Leaf nothing (said result) s.now comment at 4 }
+    ensures read { Leaf nothing (said result) s.now comment at 4 }
+    ensures open { NeverClosed at result }
 {
     let mut p = lanes::find(s, at + 2, Only(b'*')); // behind `/*`
     while lex::byte(s, p) != END {
@@ -118,16 +119,17 @@ pub fn skip_line_comment(s: &[u8], at: usize) -> usize
     p
 }
 
-// Past every blank and comment from here on.
-fn skip_blanks_and_comments(s: &[u8], at: usize) -> Result<usize, Refusal>
+// Past every blank and comment from here on, or up to a comment that is never closed.
+fn stop_of_blanks(s: &[u8], at: usize) -> usize
     requires { at ≤ length s.now }
-    ensures { Leaf nothing (said result) s.now blanks at 0 }
+    ensures read { Leaf nothing (stopped s.now result) s.now blanks at 0 }
+    ensures inside { result ≤ length s.now }
 {
     let mut p = at;
     loop {
         if lex::byte(s, p) != SLASH {
             let Some(n) = blank_width(s, p) else {
-                return Ok(p);
+                return p;
             };
             p = p + n;
             continue;
@@ -138,10 +140,27 @@ fn skip_blanks_and_comments(s: &[u8], at: usize) -> Result<usize, Refusal>
             continue;
         }
         if c != STAR {
-            return Ok(p);
+            return p;
         }
-        p = skip_comment(s, p)?;
+        let Ok(q) = skip_comment(s, p) else {
+            return p;
+        };
+        p = q;
     }
+}
+
+// Past every blank and comment from here on. The refusal is made here, which is to stand in the callers: a call that
+// handed up a `Result` would do so through memory.
+#[inline(always)]
+fn skip_blanks_and_comments(s: &[u8], at: usize) -> Result<usize, Refusal>
+    requires { at ≤ length s.now }
+    ensures { Leaf nothing (said result) s.now blanks at 0 }
+{
+    let p = stop_of_blanks(s, at);
+    if lex::two_at(s, p, SLASH, STAR) {
+        return Err(Reason::CommentNeverClosed.at(p));
+    }
+    Ok(p)
 }
 
 // A character of ASCII behind the space: of these, only a `/` may begin a comment, and none is a blank.
@@ -159,8 +178,9 @@ fn opens_comment(b: u32) -> bool
 }
 
 // Past every blank and comment from here on. Most calls meet no comment and no blank beyond ASCII, and many no blank:
-// the loop over all of them is called only where one may begin, from two places, so that this function is small enough
+// the loop over all of them is called only where one may begin, from one place, so that this function is small enough
 // to stand in its callers.
+#[inline(always)]
 pub fn skip_blanks(s: &[u8], at: usize) -> Result<usize, Refusal>
     requires { at ≤ length s.now }
     ensures { Leaf nothing (said result) s.now blanks at 0 }
@@ -171,14 +191,13 @@ pub fn skip_blanks(s: &[u8], at: usize) -> Result<usize, Refusal>
             if b != SLASH {
                 return Ok(p);
             }
-            if opens_comment(lex::byte(s, p + 1)) {
-                return skip_blanks_and_comments(s, p);
+            if !opens_comment(lex::byte(s, p + 1)) {
+                return Ok(p);
             }
-            return Ok(p);
+        } else if is_blank(b) {
+            continue;
         }
-        if !is_blank(b) {
-            return skip_blanks_and_comments(s, p);
-        }
+        return skip_blanks_and_comments(s, p);
     }
     Ok(s.len())
 }

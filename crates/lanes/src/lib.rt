@@ -5,7 +5,7 @@ ghost use Rattle.std.specs.Prelude.{◌+◌, ◌≤◌, length, MatchOption};
 ghost use Rattle.lanes.specs.First.{Clear, First};
 
 use sought::Sought;
-use words::word;
+pub use words::{beyond_ascii, word};
 
 pub mod sought;
 mod words;

@@ -4,6 +4,7 @@ use Rattle.jsx.specs.Refusal as Refusal
 use Rattle.lex.specs.declared.refusal.Reason.{Reason}
 use Rattle.lex.specs.declared.refusal.Reason.TheVariants as R
 use Rattle.lex.specs.declared.refusal.Refusal.{Refusal as Refused}
+use Rattle.lex.specs.declared.numbered.RefusedAs.{RefusedAs}
 
 -- The next place and a number that stands for what was read; or a refusal's number and two places, start and end.
 pub data Ans : Type 0 where
@@ -72,3 +73,18 @@ counts (p, m) = Got p m
 
 abbrev pub counted_in : Result (ℕ × ℕ) Refused → Ans
 counted_in r = answered counts r
+
+-- ---- a refusal that may have any number, where f is the number that an N says
+
+unfoldable pub refused_as : {N : Type 0} → (N → ℕ) → RefusedAs N → Ans
+refused_as f e = No (f e.number) e.first.start e.first.end e.second.start e.second.end
+
+abbrev pub answered_as : {N A : Type 0} → (N → ℕ) → (A → Ans) → Result A (RefusedAs N) → Ans
+answered_as f g (Ok x) = g x
+answered_as f g (Err e) = refused_as f e
+
+abbrev pub said_as : {N : Type 0} → (N → ℕ) → Result ℕ (RefusedAs N) → Ans
+said_as f r = answered_as f ends r
+
+abbrev pub counted_in_as : {N : Type 0} → (N → ℕ) → Result (ℕ × ℕ) (RefusedAs N) → Ans
+counted_in_as f r = answered_as f counts r

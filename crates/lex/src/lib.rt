@@ -13,6 +13,7 @@ use refusal::{Reason, Refusal};
 
 pub mod bytes;
 pub mod kind;
+pub mod numbered;
 pub mod refusal;
 mod words;
 

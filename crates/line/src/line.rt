@@ -62,10 +62,13 @@ impl Line {
         }
     }
 
-    // Writes the line and its end to standard output.
-    pub fn print(mut self) {
+    // Writes the line and its end to standard output, and begins the next line in its place.
+    pub fn print(&mut self)
+        ensures { self.new ≡ [] }
+    {
         self.byte(b'\n');
         io::write_all(STDOUT, &self.bytes[..self.end]);
+        self.end = 0;
     }
 }
 

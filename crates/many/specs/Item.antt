@@ -5,6 +5,7 @@ use Rattle.rules.specs.Rule.{Rule}
 use Rattle.rules.specs.Parse.{pick}
 use Rattle.jsx.specs.Reading.{stage, run}
 use Rattle.stage.specs.declared.Reading.{Reading}
+use Rattle.stage.specs.declared.Reading.TheVariants as R
 use Rattle.stage.specs.Call.{rule_of}
 use Rattle.many.specs.declared.item.BadItem.{BadItem}
 
@@ -16,6 +17,14 @@ reading letter = pick (eqb letter (code "s")) stage run
 abbrev pub IsReadingOf : (letter : ℕ) → Result Reading BadItem → Type 0
 IsReadingOf letter r =
     MatchResult r (λ x. rule_of x ≡ reading letter) (λ _. (letter ≡ code "s" → ⊥) × (letter ≡ code "r" → ⊥))
+
+-- The letter that names a reading.
+abbrev pub letter_of : Reading → ℕ
+letter_of R.Stage = code "s"
+letter_of R.Run = code "r"
+
+abbrev pub NamedBy : (letter : ℕ) → Result Reading BadItem → Type 0
+NamedBy letter r = MatchResult r (λ x. letter ≡ letter_of x) (λ _. Unit {0})
 
 -- Behind the letter stands the length in 4 bytes, low byte first.
 abbrev pub length_of : (head : List ℕ) → ℕ

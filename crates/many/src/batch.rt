@@ -57,7 +57,7 @@ impl Batch<'_> {
             self.write(Err(Reason::TooLong.at(0)));
             return;
         }
-        let r = stage::read(head.reading, &self.item[..head.length], self.table);
+        let r = head.read(&self.item[..head.length], self.table);
         self.write(r);
     }
 

@@ -1,8 +1,10 @@
 // What an item of a batch says, in front of its bytes.
 
 ghost use Rattle.std.specs.Prelude.{◌≡◌};
-ghost use Rattle.many.specs.Item.{IsReadingOf, length_of};
+ghost use Rattle.stage.specs.Call.{Reads, replied};
+ghost use Rattle.many.specs.Item.{IsReadingOf, NamedBy, length_of, letter_of, reading as reading_by};
 
+use lex::refusal::Refusal;
 use room::STDIN;
 use stage::Reading;
 
@@ -16,7 +18,8 @@ pub(crate) struct BadItem;
 // What an item is read as, by its letter.
 #[tactic(auto, unfolding(crate::specs::Item::reading))]
 fn reading_of(letter: u8) -> Result<Reading, BadItem>
-    ensures { IsReadingOf letter result }
+    ensures is { IsReadingOf letter result }
+    ensures named { NamedBy letter result }
 {
     match letter {
         b's' => Ok(Reading::Stage),
@@ -25,11 +28,22 @@ fn reading_of(letter: u8) -> Result<Reading, BadItem>
     }
 }
 
-// An item's reading, and how many bytes it has.
+// An item's letter, the reading that it names, and how many bytes it has.
 #[derive(Clone, Copy)]
-pub(crate) struct Head {
-    pub(crate) reading: Reading,
-    pub(crate) length: usize,
+pub struct Head {
+    pub letter: u8,
+    pub reading: Reading,
+    pub length: usize,
+    ghost named: { letter ≡ letter_of reading },
+}
+
+impl Head {
+    // The read of the item's bytes, by its letter.
+    pub(crate) fn read(self, s: &[u8], t: &mut [u32]) -> Result<usize, Refusal>
+        ensures { Reads (reading_by self.letter) s.now t.old (replied result) t.new }
+    {
+        stage::read(self.reading, s, t)
+    }
 }
 
 // The length that an item says.
@@ -45,6 +59,7 @@ pub(crate) fn read_head() -> Result<Option<Head>, BadItem> {
     match io::read_full(STDIN, &mut head) {
         0 => Ok(None),
         HEAD_BYTES => Ok(Some(Head {
+            letter: head[0],
             reading: reading_of(head[0])?,
             length: item_length(&head),
         })),

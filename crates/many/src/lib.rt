@@ -12,6 +12,7 @@ ghost use Rattle.print.specs.Answer.{text_room};
 use batch::Batch;
 pub use batch::TEXT;
 use item::BadItem;
+pub use item::Head;
 
 mod batch;
 mod item;

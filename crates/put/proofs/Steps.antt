@@ -170,6 +170,11 @@ unfolding no_line
 no_put n p q r s x y₁ y₂ y₃ y₄ y₅ z l e =
     said (then (then (then (then (then (then x y₁) y₂) y₃) y₄) y₅) z) (rw e) (omega arith)
 
+-- The same of a number that is another's.
+pub no_named : (n p q r s : ℕ) {m : ℕ} {a b : Text} → Puts 108 (no_line m p q r s) a b → m ≡ n
+    → Puts 108 (no_line n p q r s) a b
+no_named n p q r s x e = rw (sym e) x
+
 -- The line of a store that sets limits.
 pub set_put : (d n : ℕ) {j : ℕ} {a b c e f : Text} → Puts j (115 ∷ 101 ∷ 116 ∷ []) a b → Puts 21 (field d) b c
     → Puts 21 (field n) c e
@@ -179,4 +184,4 @@ pub set_put : (d n : ℕ) {j : ℕ} {a b c e f : Text} → Puts j (115 ∷ 101 �
 unfolding set_line
 set_put d n x y z w h = said (then (then (then x y) z) w) refl (omega arith)
 
-pub ruleset first_line_steps = (rules, ok_put, no_put, set_put)
+pub ruleset first_line_steps = (rules, ok_put, no_put, no_named, set_put)

@@ -6,7 +6,7 @@ ghost use Rattle.put.specs.Text.{ok_line, no_line, set_line};
 ghost use Rattle.put.specs.Puts.{Puts};
 
 use crate::text::Text;
-use lex::refusal::Refusal;
+use lex::refusal::{Refusal, Span};
 
 // The most bytes of an acceptance's first line.
 pub const OK_BYTES: usize = 24;
@@ -22,19 +22,27 @@ impl Text<'_> {
         self.byte(b'\n');
     }
 
-    // The line of a refusal.
+    // The line of a refusal, by its number, whatever it is, and its two places.
+    pub fn refusal(&mut self, number: usize, first: Span, second: Span)
+        requires { self.old.end + 108 < 2 ^ 63 }
+        ensures { Puts 108 (no_line number first.start first.end second.start second.end) self.old self.new }
+    {
+        self.literal(b"no");
+        self.field(number);
+        self.field(first.start);
+        self.field(first.end);
+        self.field(second.start);
+        self.field(second.end);
+        self.byte(b'\n');
+    }
+
+    // The line of a refusal of document 01 or 02.
     pub fn no(&mut self, r: Refusal)
         requires { self.old.end + 108 < 2 ^ 63 }
         ensures { Puts 108 (no_line (number r.reason) r.first.start r.first.end r.second.start r.second.end)
             self.old self.new }
     {
-        self.literal(b"no");
-        self.field(r.reason.number() as usize);
-        self.field(r.first.start);
-        self.field(r.first.end);
-        self.field(r.second.start);
-        self.field(r.second.end);
-        self.byte(b'\n');
+        self.refusal(r.reason.number() as usize, r.first, r.second);
     }
 
     // The line of a settings store that sets a depth and a length.

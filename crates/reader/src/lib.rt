@@ -14,7 +14,7 @@ ghost use Rattle.jsx.specs.Tag.{value as value_rule, attribute, attributes};
 ghost use Rattle.jsx.specs.Element.{children as children_rule, fragment_in, named_in};
 ghost use Rattle.jsx.specs.Depth.{within};
 ghost use Rattle.lex.specs.Kind.{kind_number};
-ghost use Rattle.lex.specs.Answer.{number, counted_in};
+ghost use Rattle.lex.specs.Answer.{number, counted_in, counted_in_as};
 ghost use Rattle.lex.specs.Contract.{Past};
 ghost use Rattle.table.specs.Slot.{seat};
 ghost use Rattle.table.specs.Reader.{Room, Made};
@@ -29,6 +29,7 @@ use lex::bytes::{
     OPEN_BRACKET, OPEN_PAREN, QUESTION, SLASH,
 };
 use lex::kind::Kind;
+use lex::numbered::{RefusedAs, Refusing};
 use lex::refusal::{Reason, Refusal};
 use table::{ROW_WORDS, Slot};
 
@@ -744,20 +745,23 @@ fn children(
 
 // ---- for those outside the cycle
 
-// An element or a fragment that is no child, and nothing behind it that n or 12 refuses.
-pub fn parse_jsx_element(
+// An element or a fragment that is no child, and nothing behind it that n or 12 refuses: as `lone` does, for any n.
+pub fn parse_jsx_element<N: Refusing>(
     t: &mut [u32],
     s: &[u8],
     at: usize,
-    n: Reason,
+    n: N,
     d: usize,
     slot: Slot,
-) -> Result<(usize, usize), Refusal>
+) -> Result<(usize, usize), RefusedAs<N>>
     requires { Room 3 s.now at (seat slot) × (at < length s.now) }
-    ensures { Made (counted_in result) s.now ((within d).element ⨾ no_sibling (number n)) at 1 (seat slot) 0
-        t.old t.new }
+    ensures { Made (counted_in_as N.number_of result) s.now ((within d).element ⨾ no_sibling (N.number_of n)) at 1
+        (seat slot) 0 t.old t.new }
 {
-    lone(t, s, at, n, d, slot)
+    let a = blank::pass(s, at)?;
+    let (e, m) = elem(t, s, at, a, d, slot)?;
+    let z = tag::no_sibling(s, e, n)?;
+    Ok((z, m))
 }
 
 // Children, as many as there are.

@@ -4,11 +4,10 @@
 
 ghost use Rattle.std.specs.Prelude.{◌≡◌, [], ◌∷◌, ◌+◌, ◌≤◌, ◌<◌, ◌^◌, length, get_or};
 ghost use Rattle.rules.specs.Record.{row_words};
-ghost use Rattle.lex.specs.Kind.{kind_number};
 ghost use Rattle.table.specs.Slot.{seat, seat_inside, seat_behind};
 ghost use Rattle.table.specs.Contract.{Start, Enterable, Words, Put, Stored};
 
-use lex::kind::Kind;
+use lex::numbered::Numbered;
 
 // The words of a row.
 pub const ROW_WORDS: usize = 7;
@@ -80,10 +79,11 @@ impl Slot {
     }
 }
 
-// What a node says of itself: its kind, its span, its extra word, and how many records are below it.
+// What a node says of itself: its kind, or any number in its place, its span, its extra word, and how many records are
+// below it.
 #[derive(Clone, Copy)]
-pub struct Node {
-    pub kind: Kind,
+pub struct Node<K> {
+    pub kind: K,
     pub start: usize,
     pub end: usize,
     pub extra: usize,
@@ -118,13 +118,13 @@ fn put_three(t: &mut [u32], k: usize, a: usize, b: usize, c: usize)
 }
 
 // A node's row at the front of a part that has room for it.
-fn put_whole(t: &mut [u32], slot: Slot, w: Node)
-    requires { Words (seat slot) (kind_number w.kind) w.start w.end w.extra w.below × (row_words ≤ length t.old) }
-    ensures { Stored 0 (seat slot) (kind_number w.kind) w.start w.end w.extra w.below t.old t.new }
+fn put_whole<K: Numbered>(t: &mut [u32], slot: Slot, w: Node<K>)
+    requires { Words (seat slot) (K.number_of w.kind) w.start w.end w.extra w.below × (row_words ≤ length t.old) }
+    ensures { Stored 0 (seat slot) (K.number_of w.kind) w.start w.end w.extra w.below t.old t.new }
 {
     let number = slot.number();
     let depth = slot.depth();
-    t[KIND] = w.kind.number();
+    t[KIND] = w.kind.as_number() as u32;
     t[START] = w.start as u32;
     t[END] = w.end as u32;
     t[PARENT] = slot.parent as u32;
@@ -134,11 +134,11 @@ fn put_whole(t: &mut [u32], slot: Slot, w: Node)
 }
 
 // A node's row at the front of any part, each word where it fits.
-fn put_cut(t: &mut [u32], slot: Slot, w: Node)
-    requires { Words (seat slot) (kind_number w.kind) w.start w.end w.extra w.below }
-    ensures { Stored 0 (seat slot) (kind_number w.kind) w.start w.end w.extra w.below t.old t.new }
+fn put_cut<K: Numbered>(t: &mut [u32], slot: Slot, w: Node<K>)
+    requires { Words (seat slot) (K.number_of w.kind) w.start w.end w.extra w.below }
+    ensures { Stored 0 (seat slot) (K.number_of w.kind) w.start w.end w.extra w.below t.old t.new }
 {
-    put_three(t, KIND, w.kind.number() as usize, w.start, w.end);
+    put_three(t, KIND, w.kind.as_number(), w.start, w.end);
     put_three(
         t,
         PARENT,
@@ -151,9 +151,9 @@ fn put_cut(t: &mut [u32], slot: Slot, w: Node)
 
 // A node's row at the front of the part. A check lends no word of a table, a read room for the row: so there is one test, or
 // two.
-pub fn put_node(t: &mut [u32], slot: Slot, w: Node)
-    requires { Words (seat slot) (kind_number w.kind) w.start w.end w.extra w.below }
-    ensures { Stored 0 (seat slot) (kind_number w.kind) w.start w.end w.extra w.below t.old t.new }
+pub fn put_node<K: Numbered>(t: &mut [u32], slot: Slot, w: Node<K>)
+    requires { Words (seat slot) (K.number_of w.kind) w.start w.end w.extra w.below }
+    ensures { Stored 0 (seat slot) (K.number_of w.kind) w.start w.end w.extra w.below t.old t.new }
 {
     if t.len() == 0 {
         return;
@@ -166,9 +166,9 @@ pub fn put_node(t: &mut [u32], slot: Slot, w: Node)
 }
 
 // A node's row at the word k: its writer is lent only the part from there on.
-pub fn put_node_at(t: &mut [u32], k: usize, slot: Slot, w: Node)
-    requires { Words (seat slot) (kind_number w.kind) w.start w.end w.extra w.below }
-    ensures { Stored k (seat slot) (kind_number w.kind) w.start w.end w.extra w.below t.old t.new }
+pub fn put_node_at<K: Numbered>(t: &mut [u32], k: usize, slot: Slot, w: Node<K>)
+    requires { Words (seat slot) (K.number_of w.kind) w.start w.end w.extra w.below }
+    ensures { Stored k (seat slot) (K.number_of w.kind) w.start w.end w.extra w.below t.old t.new }
 {
     let i = start(t.len(), k);
     put_node(&mut t[i..], slot, w);

@@ -8,7 +8,7 @@ ghost use Rattle.jsx.specs.Byte.{quote};
 ghost use Rattle.jsx.specs.Text.{quoted};
 ghost use Rattle.jsx.specs.Expression.{no_sibling};
 ghost use Rattle.jsx.specs.Tag.{tag_end};
-ghost use Rattle.lex.specs.Answer.{number, counted_in, said, told};
+ghost use Rattle.lex.specs.Answer.{counted_in, said, said_as, told};
 ghost use Rattle.lex.specs.Contract.{Leaf, nothing};
 ghost use Rattle.table.specs.Slot.{seat};
 ghost use Rattle.table.specs.Reader.{Room, Made};
@@ -16,6 +16,7 @@ ghost use Rattle.tag.specs.Token.{open_by, close_by, goes_on};
 
 use lex::bytes::{EQUALS, GREATER, LESS, SLASH};
 use lex::kind::Kind;
+use lex::numbered::{RefusedAs, Refusing};
 use lex::refusal::{Reason, Refusal};
 use table::{Node, Slot};
 
@@ -55,18 +56,18 @@ pub fn tag_end(s: &[u8], at: usize) -> Result<(usize, bool), Refusal>
 
 // Behind an element that is no child: blanks, and a `<` is refused: with 12, or with n before `<` and `=`. Nothing is
 // passed.
-pub fn no_sibling(s: &[u8], at: usize, n: Reason) -> Result<usize, Refusal>
+pub fn no_sibling<N: Refusing>(s: &[u8], at: usize, n: N) -> Result<usize, RefusedAs<N>>
     requires { at ≤ length s.now }
-    ensures { Leaf nothing (said result) s.now (no_sibling (number n)) at 0 }
+    ensures { Leaf nothing (said_as N.number_of result) s.now (no_sibling (N.number_of n)) at 0 }
 {
     let p = blank::skip_blanks(s, at)?;
     if lex::byte(s, p) != LESS {
         return Ok(at);
     }
     if lex::two_at(s, p, LESS, LESS) || lex::two_at(s, p, LESS, EQUALS) {
-        return Err(n.at(p));
+        return Err(RefusedAs::at(n, p));
     }
-    Err(Reason::Adjacent.over(p, p + 1))
+    Err(Reason::Adjacent.over(p, p + 1).into())
 }
 
 // A quoted attribute value, whose quote was seen, and its record.

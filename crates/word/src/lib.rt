@@ -162,7 +162,9 @@ fn end_of_part(s: &[u8], at: usize) -> Option<usize>
 }
 
 // Past a part of a name. One of ASCII is read here, any other by `end_of_part`, from its first byte on. (The
-// place is needed behind the loop, where a `for` has none: that would be no plainer.)
+// place is needed behind the loop, where a `for` has none: that would be no plainer.) It stands in its callers: by a
+// call, which hands its answer over through memory, stages of tags and attributes took 1.2 to 1.3 of the time.
+#[inline(always)]
 pub fn parse_jsx_identifier(s: &[u8], at: usize) -> Result<usize, Refusal>
     requires { at ≤ length s.now }
     ensures { Leaf nothing (said result) s.now name_part at 1 }

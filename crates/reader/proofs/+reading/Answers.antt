@@ -11,7 +11,9 @@ use Rattle.table.proofs.Asked.{made_inside}
 use Rattle.reader.proofs.Steps.{made_leaf_room}
 use Rattle.reader.proofs.Asked.{brace_inside, bracket_inside, paren_inside, dash_inside, less_inside, question_inside}
 use Rattle.reader.proofs.Asked.{fragment_wide, fragment_behind, fragment_shut}
+use Rattle.lex.specs.Answer.{counts, number}
 use Rattle.lex.proofs.Results.{counted_ok, err_is, offered_none, offered_some, refused_is, said_ok, told_ok}
+use Rattle.lex.proofs.Results.{err_says, refused_as_is, said_as_ok}
 use Rattle.reader.proofs.PlainSteps.{tag_ok, tag_stops, tag_goes, tag_refused_is, plain_refused, refused_plain}
 use Rattle.reader.proofs.Steps.{two_refuses_inside}
 use Rattle.reader.proofs.Cuts.{either_splits, postfix_splits}
@@ -1550,11 +1552,11 @@ lone-shape_of-t-in_err-z t c = search (
 )
 
 pub lone-returns-in_err-z : goal.lone-returns-in_err-z
-lone-returns-in_err-z t c = rw (err_is _ c.from_residual-in_err-z.ensures.1)
+lone-returns-in_err-z t c = rw (err_says counts c.from_residual-in_err-z.result c.from_residual-in_err-z.ensures.1)
     (search (
       lone_set,
       c.in_err-z.ensures,
-      refused_is c.in_err-z.field-0.0,
+      refused_as_is number c.in_err-z.field-0.0,
       said_ok c.branch-a.ensures c.in_ok-a.is,
       counted_ok c.branch-e.ensures c.in_ok-e.is,
     ))
@@ -1564,7 +1566,7 @@ lone-shape_of-t t c = search (
   lone_asked,
   said_ok c.branch-a.ensures c.in_ok-a.is,
   counted_ok c.branch-e.ensures c.in_ok-e.is,
-  said_ok c.branch-z.ensures c.in_ok-z.is,
+  said_as_ok number c.branch-z.ensures c.in_ok-z.is,
 )
 
 pub lone-returns : goal.lone-returns
@@ -1572,7 +1574,7 @@ lone-returns t c = search (
   lone_set,
   said_ok c.branch-a.ensures c.in_ok-a.is,
   counted_ok c.branch-e.ensures c.in_ok-e.is,
-  said_ok c.branch-z.ensures c.in_ok-z.is,
+  said_as_ok number c.branch-z.ensures c.in_ok-z.is,
 )
 
 pub more-loop-q-init : goal.more-loop-q-init

@@ -1,5 +1,6 @@
 use Rattle.stage.proofs.IntoSteps.{stage_steps, into_asked}
-use Rattle.lex.proofs.Results.{counted_ok, err_is, refused_is, said_ok}
+use Rattle.lex.specs.Answer.{counts, number}
+use Rattle.lex.proofs.Results.{counted_as_ok, err_is, err_says, refused_as_is, refused_is, said_ok}
 use Rattle.stage.proofs.stage_into.Goals as goal
 
 pub skip_blanks-requires : goal.skip_blanks-requires
@@ -28,21 +29,26 @@ pub shape_of-t-in_err-e : goal.shape_of-t-in_err-e
 shape_of-t-in_err-e c = search (into_asked, said_ok c.branch-p.ensures c.in_ok-p.is)
 
 pub returns-in_err-e : goal.returns-in_err-e
-returns-in_err-e c = rw (err_is _ c.from_residual-in_err-e.ensures.1)
-    (search (stage_steps, c.in_err-e.ensures, refused_is c.in_err-e.field-0.0, said_ok c.branch-p.ensures c.in_ok-p.is))
+returns-in_err-e c = rw (err_says counts c.from_residual-in_err-e.result c.from_residual-in_err-e.ensures.1)
+    (search (
+      stage_steps,
+      c.in_err-e.ensures,
+      refused_as_is number c.in_err-e.field-0.0,
+      said_ok c.branch-p.ensures c.in_ok-p.is,
+    ))
 
 pub skip_blanks-requires-2 : goal.skip_blanks-requires-2
 skip_blanks-requires-2 c = search (
   into_asked,
   said_ok c.branch-p.ensures c.in_ok-p.is,
-  counted_ok c.branch-e.ensures c.in_ok-e.is,
+  counted_as_ok number c.branch-e.ensures c.in_ok-e.is,
 )
 
 pub shape_of-t-in_err-z : goal.shape_of-t-in_err-z
 shape_of-t-in_err-z c = search (
   into_asked,
   said_ok c.branch-p.ensures c.in_ok-p.is,
-  counted_ok c.branch-e.ensures c.in_ok-e.is,
+  counted_as_ok number c.branch-e.ensures c.in_ok-e.is,
 )
 
 pub returns-in_err-z : goal.returns-in_err-z
@@ -52,14 +58,14 @@ returns-in_err-z c = rw (err_is _ c.from_residual-in_err-z.ensures.1)
       c.in_err-z.ensures,
       refused_is c.in_err-z.field-0.0,
       said_ok c.branch-p.ensures c.in_ok-p.is,
-      counted_ok c.branch-e.ensures c.in_ok-e.is,
+      counted_as_ok number c.branch-e.ensures c.in_ok-e.is,
     ))
 
 pub byte-requires-2 : goal.byte-requires-2
 byte-requires-2 c = search (
   into_asked,
   said_ok c.branch-p.ensures c.in_ok-p.is,
-  counted_ok c.branch-e.ensures c.in_ok-e.is,
+  counted_as_ok number c.branch-e.ensures c.in_ok-e.is,
   said_ok c.branch-z.ensures c.in_ok-z.is,
 )
 
@@ -67,7 +73,7 @@ pub shape_of-t-then-byte-eq-END : goal.shape_of-t-then-byte-eq-END
 shape_of-t-then-byte-eq-END c = search (
   into_asked,
   said_ok c.branch-p.ensures c.in_ok-p.is,
-  counted_ok c.branch-e.ensures c.in_ok-e.is,
+  counted_as_ok number c.branch-e.ensures c.in_ok-e.is,
   said_ok c.branch-z.ensures c.in_ok-z.is,
 )
 
@@ -75,7 +81,7 @@ pub returns-then-byte-eq-END : goal.returns-then-byte-eq-END
 returns-then-byte-eq-END c = search (
   stage_steps,
   said_ok c.branch-p.ensures c.in_ok-p.is,
-  counted_ok c.branch-e.ensures c.in_ok-e.is,
+  counted_as_ok number c.branch-e.ensures c.in_ok-e.is,
   said_ok c.branch-z.ensures c.in_ok-z.is,
 )
 
@@ -83,7 +89,7 @@ pub shape_of-t : goal.shape_of-t
 shape_of-t c = search (
   into_asked,
   said_ok c.branch-p.ensures c.in_ok-p.is,
-  counted_ok c.branch-e.ensures c.in_ok-e.is,
+  counted_as_ok number c.branch-e.ensures c.in_ok-e.is,
   said_ok c.branch-z.ensures c.in_ok-z.is,
 )
 
@@ -91,6 +97,6 @@ pub returns : goal.returns
 returns c = rw c.at.ensures (search (
   stage_steps,
   said_ok c.branch-p.ensures c.in_ok-p.is,
-  counted_ok c.branch-e.ensures c.in_ok-e.is,
+  counted_as_ok number c.branch-e.ensures c.in_ok-e.is,
   said_ok c.branch-z.ensures c.in_ok-z.is,
 ))

@@ -3,4 +3,4 @@ use Rattle.table.proofs.Laws.{stored_at}
 use Rattle.table.proofs.put_node_at.Goals as goal
 
 pub returns : goal.returns
-returns c = search stored_at
+returns g c = search stored_at

@@ -2,7 +2,7 @@ use Prim.Native.Nat.{◌-◌}
 use lib.ListN.{length}
 use Rattle.jsx.specs.Blank.{blank}
 use Rattle.lex.proofs.Turns.{Turns}
-use Rattle.blank.proofs.skip_blanks_and_comments.Given as goal
+use Rattle.blank.proofs.stop_of_blanks.Given as goal
 
 abbrev pub invariant-loop-n : goal.invariant-loop-n
 invariant-loop-n l = Turns l.s blank 0 l.at l.p
