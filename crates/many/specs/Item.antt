@@ -23,6 +23,7 @@ abbrev pub letter_of : Reading → ℕ
 letter_of R.Stage = code "s"
 letter_of R.Run = code "r"
 
+-- What is read of an item is the reading that its letter names.
 abbrev pub NamedBy : (letter : ℕ) → Result Reading BadItem → Type 0
 NamedBy letter r = MatchResult r (λ x. letter ≡ letter_of x) (λ _. Unit {0})
 

@@ -22,7 +22,8 @@ use Rattle.jsx.specs.Depth.{within}
 use Rattle.jsx.specs.Reading.{stage, run}
 use Rattle.jsx.proofs.Goes.{within_goes}
 use Rattle.lex.specs.Contract.{nothing, Leaf}
-use Rattle.lex.specs.Answer.{Ans, Got, No}
+use Rattle.lex.specs.Answer.{Ans, Got, No, refused as says}
+use Rattle.lex.specs.declared.refusal.Refusal.{Refusal}
 use Rattle.lex.proofs.Laws as Lex
 use Rattle.lex.proofs.Bare.{goes_blanks, bare_blanks}
 use Rattle.table.specs.Slot.{Seat}
@@ -155,6 +156,12 @@ pub ruleset stage_steps = (
 )
 
 -- ---- a run
+
+-- A refusal that is made here.
+pub made_refusal : (e : Refusal) {v : Ans} {s : List ℕ} {g : Rule} {at k i : ℕ} {q : Seat} {t t' : List ℕ} → says e ≡ v
+    → Made v s g at k q i t t'
+    → Made (says e) s g at k q i t t'
+made_refusal e h m = rw h m
 
 module _ {s : List ℕ} {t t₂ : List ℕ} (i : length s ≤ 1_048_576) {w : Seat} (e₀ : w ≡ whole) {r : Ans}
     (l : Made r s (children (within 64)) 0 0 w 0 t t₂) where

@@ -1,4 +1,4 @@
-use Rattle.stage.proofs.IntoSteps.{run_steps, into_asked}
+use Rattle.stage.proofs.IntoSteps.{run_steps, made_refusal, into_asked}
 use Rattle.lex.proofs.Results.{counted_ok, err_is, refused_is}
 use Rattle.stage.proofs.run_into.Goals as goal
 
@@ -28,4 +28,4 @@ pub shape_of-t : goal.shape_of-t
 shape_of-t c = search (into_asked, counted_ok c.branch-p.ensures c.in_ok-p.is)
 
 pub returns : goal.returns
-returns c = rw c.at.ensures (search (run_steps, counted_ok c.branch-p.ensures c.in_ok-p.is))
+returns c = search (run_steps, made_refusal, counted_ok c.branch-p.ensures c.in_ok-p.is)
